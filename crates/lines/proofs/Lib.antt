@@ -1,0 +1,8 @@
+-- Laws of runs, words and numbers.
+pub mod Here
+pub mod Classes
+pub mod Runs
+pub mod Numbers
+pub mod Words
+pub mod Heads
+pub mod Parts

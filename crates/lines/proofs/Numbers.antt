@@ -1,0 +1,150 @@
+-- Laws of numbers. Assumes nothing.
+use mathlib.Core.Path.{_≡_, refl, ap, sym, _∙_}
+use mathlib.Core.Bool.{Bool, true, false, not, cond, _&&_, _||_}
+use mathlib.Core.List.{List, [], _∷_}
+use Prim.Native.Nat.{ℕ, _+_, _*_, _-_, _<_, _≤_, min}
+use native.Mathlib.Omega.{arith}
+use lib.ListN.{length, drop, getD}
+use lib.Dec.{eqb}
+use borrow.Author.Tests.{eq-eqb, ne-eqb}
+use Rattle.lines.specs.Lists.{all, isEmpty}
+use Rattle.lines.specs.Bytes.{isDigit}
+use Rattle.lines.specs.Lines.{isNumber, value, Token, signed}
+use Rattle.lines.specs.declared.Digits.{Digits}
+use Rattle.lines.specs.declared.Number.{Number}
+use Rattle.lines.specs.Scan.{cap, digitsIn, shown, numberIn}
+use Rattle.lines.specs.declared.Class.the-variants.{Digit, Minus}
+use Rattle.lines.proofs.Here.{here, past}
+use Rattle.lines.proofs.Classes.{is-held, held-is, held-not}
+
+pub digit-from : (b : ℕ) → isDigit b ≡ true → 48 ≤ b
+digit-from b e = is-held Digit b e .0
+
+zero-digit : isDigit 48 ≡ true
+zero-digit = held-is Digit 48 (omega arith, omega arith)
+
+-- a value above the cap stays above it
+capped : (v : ℕ) (bs : List ℕ) → min cap (value v bs) ≡ min cap (value (min cap v) bs)
+capped v [] = omega arith
+capped v (b ∷ bs) =
+    capped (v * 10 + (b - 48)) bs ∙ ap (λ w. min cap (value w bs)) (omega arith) ∙ sym (capped (min cap v * 10 + (b - 48)) bs)
+
+-- the digits so far said v
+unfoldable pub on : ℕ → List ℕ → Digits
+on v ds = cond (all isDigit ds) (Digits.Value (min cap (value v ds))) Digits.Bad
+
+and-true : (t : Bool) → t && true ≡ t
+and-true true = refl
+and-true false = refl
+
+and-false : (t : Bool) → t && false ≡ false
+and-false true = refl
+and-false false = refl
+
+module _ (bs : List ℕ) (i : ℕ) where
+  pub on-past : (v : ℕ) → length bs ≤ i → v ≤ cap → Digits.Value v ≡ on v (drop i bs)
+  unfolding on
+  on-past v h l = rw (past bs i h) (ap Digits.Value (omega arith))
+
+  pub on-stop : (v : ℕ) → i < length bs → isDigit (getD bs i 0) ≡ false → Digits.Bad ≡ on v (drop i bs)
+  unfolding on
+  on-stop v h e =
+      sym (ap (on v) (here bs i h) ∙ ap (λ t. cond (t && all isDigit (drop (i + 1) bs)) (Digits.Value (min cap (value v (getD bs i 0 ∷ drop (i + 1) bs)))) Digits.Bad) e)
+
+  pub on-go : (v : ℕ) {w : ℕ} → i < length bs → isDigit (getD bs i 0) ≡ true → w ≡ min cap (v * 10 + (getD bs i 0 - 48)) → on v (drop i bs) ≡ on w (drop (i + 1) bs)
+  unfolding on
+  on-go v {w} h e f =
+      ap (on v) (here bs i h)
+      ∙ ap (λ t. cond (t && all isDigit (drop (i + 1) bs)) (Digits.Value (min cap (value v (getD bs i 0 ∷ drop (i + 1) bs)))) Digits.Bad) e
+      ∙ ap (λ x. cond (all isDigit (drop (i + 1) bs)) (Digits.Value x) Digits.Bad)
+      (capped (v * 10 + (getD bs i 0 - 48)) (drop (i + 1) bs) ∙ ap (λ x. min cap (value x (drop (i + 1) bs))) (sym f))
+
+  pub digits-none : length bs ≤ i → Digits.Bad ≡ digitsIn (drop i bs)
+  unfolding digitsIn
+  digits-none h = rw (past bs i h)
+
+  pub digits-zero : i < length bs → getD bs i 0 ≡ 48 → i + 1 ≡ length bs → Digits.Value 0 ≡ digitsIn (drop i bs)
+  unfolding digitsIn
+  digits-zero h e l = rw (here bs i h, e, past bs (i + 1) (omega arith)) (ap (λ t. cond (t && true && (not (eqb 48 48) || true)) (Digits.Value 0) Digits.Bad) (sym zero-digit))
+
+  pub digits-led : i < length bs → getD bs i 0 ≡ 48 → (i + 1 ≡ length bs → ⊥) → Digits.Bad ≡ digitsIn (drop i bs)
+  unfolding digitsIn
+  digits-led h e l =
+      rw (here bs i h, e, here bs (i + 1) (omega arith))
+      (ap (λ t. cond t (Digits.Value (min cap (value 0 (48 ∷ getD bs (i + 1) 0 ∷ drop (i + 1 + 1) bs)))) Digits.Bad) (sym (and-false (isDigit 48 && all isDigit (getD bs (i + 1) 0 ∷ drop (i + 1 + 1) bs)))))
+
+  pub digits-on : i < length bs → (getD bs i 0 ≡ 48 → ⊥) → on 0 (drop i bs) ≡ digitsIn (drop i bs)
+  unfolding digitsIn on
+  digits-on h e =
+      rw (here bs i h)
+      (ap (λ t. cond t (Digits.Value (min cap (value 0 (getD bs i 0 ∷ drop (i + 1) bs)))) Digits.Bad)
+      (sym (ap (λ t. isDigit (getD bs i 0) && all isDigit (drop (i + 1) bs) && (not t || isEmpty (drop (i + 1) bs))) (ne-eqb (getD bs i 0) 48 e) ∙ and-true (isDigit (getD bs i 0) && all isDigit (drop (i + 1) bs)))))
+
+-- NUMBERS, by what the digits say
+value-of : (t : Bool) (n v : ℕ) → cond t (Digits.Value (min cap n)) Digits.Bad ≡ Digits.Value v → (t ≡ true) × (v ≡ min cap n)
+value-of true n v e = (refl, cc)
+value-of false n v e = absurd (let z : _≡_ {A = ℕ} 0 1 = cc in omega arith)
+
+bad-of : (t : Bool) (n : ℕ) → cond t (Digits.Value (min cap n)) Digits.Bad ≡ Digits.Bad → t ≡ false
+bad-of true n e = absurd (let z : _≡_ {A = ℕ} 0 1 = cc in omega arith)
+bad-of false n e = refl
+
+module _ (w : List ℕ) {d : Digits} (h : d ≡ digitsIn w) where
+  pub number-digits : {v : ℕ} → d ≡ Digits.Value v → Number.Value v ≡ numberIn w
+  unfolding numberIn digitsIn
+  number-digits {v} e =
+      let k = value-of (isNumber w) (value 0 w) v (sym h ∙ e) in
+      sym (ap (λ t. shown (cond t (Token.number (value 0 w)) (signed w))) (k .0) ∙ ap Number.Value (sym (k .1)))
+
+  no-digits : d ≡ Digits.Bad → numberIn w ≡ shown (signed w)
+  unfolding numberIn digitsIn
+  no-digits e = ap (λ t. shown (cond t (Token.number (value 0 w)) (signed w))) (bad-of (isNumber w) (value 0 w) (sym h ∙ e))
+
+  pub number-empty : d ≡ Digits.Bad → length w ≡ 0 → Number.Bad ≡ numberIn w
+  number-empty e l = sym (no-digits e ∙ go w l)
+    where
+      go : (w : List ℕ) → length w ≡ 0 → shown (signed w) ≡ Number.Bad
+      go [] l = refl
+      go (b ∷ bs) l = absurd (let k = l in omega arith)
+
+  pub number-other : d ≡ Digits.Bad → (getD w 0 0 ≡ 45 → ⊥) → Number.Bad ≡ numberIn w
+  number-other e l = sym (no-digits e ∙ go w l)
+    where
+      go : (w : List ℕ) → (getD w 0 0 ≡ 45 → ⊥) → shown (signed w) ≡ Number.Bad
+      go [] l = refl
+      go (b ∷ bs) l = ap (λ t. shown (cond (t && isNumber bs && not (eqb (value 0 bs) 0)) (Token.minus (value 0 bs)) (Token.word (b ∷ bs)))) (held-not Minus b l)
+
+  module _ (e : d ≡ Digits.Bad) (m : getD w 0 0 ≡ 45) (l : length w ≡ 0 → ⊥) {f : Digits} (g : f ≡ digitsIn (drop 1 w)) where
+    signs : (w : List ℕ) → getD w 0 0 ≡ 45 → (length w ≡ 0 → ⊥)
+        → shown (signed w) ≡ cond (isNumber (drop 1 w) && not (eqb (value 0 (drop 1 w)) 0)) (Number.Minus (min cap (value 0 (drop 1 w)))) Number.Bad
+    signs [] m l = absurd (l refl)
+    signs (b ∷ bs) m l =
+        ap (λ t. shown (cond (t && isNumber bs && not (eqb (value 0 bs) 0)) (Token.minus (value 0 bs)) (Token.word (b ∷ bs)))) (held-is Minus b m)
+        ∙ go (isNumber bs && not (eqb (value 0 bs) 0))
+      where
+        go : (t : Bool) → shown (cond t (Token.minus (value 0 bs)) (Token.word (b ∷ bs))) ≡ cond t (Number.Minus (min cap (value 0 bs))) Number.Bad
+        go true = refl
+        go false = refl
+
+    pub number-sign : f ≡ Digits.Bad → Number.Bad ≡ numberIn w
+    unfolding digitsIn
+    number-sign k =
+        sym (no-digits e ∙ signs w m l
+        ∙ ap (λ t. cond (t && not (eqb (value 0 (drop 1 w)) 0)) (Number.Minus (min cap (value 0 (drop 1 w)))) Number.Bad) (bad-of (isNumber (drop 1 w)) (value 0 (drop 1 w)) (sym g ∙ k)))
+
+    pub number-minus-zero : {v : ℕ} → f ≡ Digits.Value v → v ≡ 0 → Number.Bad ≡ numberIn w
+    unfolding digitsIn
+    number-minus-zero {v} k z =
+        let q = value-of (isNumber (drop 1 w)) (value 0 (drop 1 w)) v (sym g ∙ k) in
+        sym (no-digits e ∙ signs w m l
+        ∙ ap (λ t. cond (isNumber (drop 1 w) && not t) (Number.Minus (min cap (value 0 (drop 1 w)))) Number.Bad) (eq-eqb (value 0 (drop 1 w)) 0 (omega (arith, q .1)))
+        ∙ ap (λ t. cond t (Number.Minus (min cap (value 0 (drop 1 w)))) Number.Bad) (and-false (isNumber (drop 1 w))))
+
+    pub number-minus : {v : ℕ} → f ≡ Digits.Value v → (v ≡ 0 → ⊥) → Number.Minus v ≡ numberIn w
+    unfolding digitsIn
+    number-minus {v} k z =
+        let q = value-of (isNumber (drop 1 w)) (value 0 (drop 1 w)) v (sym g ∙ k) in
+        sym (no-digits e ∙ signs w m l
+        ∙ ap (λ t. cond (t && not (eqb (value 0 (drop 1 w)) 0)) (Number.Minus (min cap (value 0 (drop 1 w)))) Number.Bad) (q .0)
+        ∙ ap (λ t. cond (not t) (Number.Minus (min cap (value 0 (drop 1 w)))) Number.Bad) (ne-eqb (value 0 (drop 1 w)) 0 (λ y. z (q .1 ∙ ap (min cap) y)))
+        ∙ ap Number.Minus (sym (q .1)))

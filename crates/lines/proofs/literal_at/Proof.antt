@@ -1,0 +1,84 @@
+use native.Mathlib.Omega.{arith}
+use Rattle.lines.proofs.Words.{literal-none, word-within, literal-value, literal-minus, literal-other, value-capped, minus-capped}
+use borrow.Author.Needs.{needs}
+use Rattle.lines.proofs.literal_at.Statement.{statement}
+use Rattle.lines.proofs.literal_at.Tie as tie
+
+past-requires : tie.Need-past-requires
+past-requires c κs = search needs
+
+returns : tie.Need-returns
+returns c = literal-none _ _ (c .before .past .ensures) (c .if1 .taken)
+
+past-requires-2 : tie.Need-past-requires-2
+past-requires-2 c κs = search needs
+
+sub-number-of : tie.Need-sub-number-of
+sub-number-of c = search needs
+
+part-number-of-start : tie.Need-part-number-of-start
+part-number-of-start c = search needs
+
+part-number-of-end : tie.Need-part-number-of-end
+part-number-of-end c = word-within _ _ (c .before .before .past .ensures) (c .past2 .ensures) (c .before .if1 .left)
+
+number-of-requires : tie.Need-number-of-requires
+number-of-requires c κs = search needs
+
+enum-known-v : tie.Need-enum-known-v
+enum-known-v c = search needs
+
+mul-t15 : tie.Need-mul-t15
+mul-t15 c =
+    let k = c .before .before .before .before .before in
+    let h = value-capped _ _ (k .before .before .past .ensures) (k .past2 .ensures) (c .before .before .before .number-of .ensures) (c .before .v .given .1) in omega arith
+
+enum-known-v-2 : tie.Need-enum-known-v-2
+enum-known-v-2 c = search needs
+
+mul-t16 : tie.Need-mul-t16
+mul-t16 c =
+    let k = c .before .before .before .before .before in
+    let h = minus-capped _ _ (k .before .before .past .ensures) (k .past2 .ensures) (c .before .before .before .number-of .ensures) (c .before .v2 .given .1) in omega arith
+
+add-t17 : tie.Need-add-t17
+add-t17 c =
+    let k = c .before .before .before .before .before in
+    let h = minus-capped _ _ (k .before .before .past .ensures) (k .past2 .ensures) (c .before .before .before .number-of .ensures) (c .before .v2 .given .1) in omega arith
+
+enum-told : tie.Need-enum-told
+enum-told c = search needs
+
+returns-2 : tie.Need-returns-2
+returns-2 c =
+    let k = c .before .before .before .before .before in
+    literal-value _ _ (k .before .before .past .ensures) (k .past2 .ensures) (c .before .before .before .number-of .ensures) (c .before .v .given .1)
+
+returns-3 : tie.Need-returns-3
+returns-3 c =
+    let k = c .before .before .before .before .before in
+    literal-minus _ _ (k .before .before .past .ensures) (k .past2 .ensures) (c .before .before .before .number-of .ensures) (c .before .v2 .given .1)
+
+returns-4 : tie.Need-returns-4
+returns-4 c = literal-other _ _ (c .before .before .before .before .before .before .past .ensures) (c .before .before .before .before .past2 .ensures) (c .before .before .number-of .ensures) (c .enum-told .given .1)
+
+pub literal-at-spec : {M : Type 1} → statement M
+literal-at-spec =
+    tie.close
+    (tie.spec
+    past-requires
+    returns
+    past-requires-2
+    sub-number-of
+    part-number-of-start
+    part-number-of-end
+    number-of-requires
+    enum-known-v
+    mul-t15
+    enum-known-v-2
+    mul-t16
+    add-t17
+    enum-told
+    returns-2
+    returns-3
+    returns-4)

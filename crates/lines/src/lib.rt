@@ -1,0 +1,283 @@
+// Bytes, lines, tokens and numbers of a file; the call for a line's bytes.
+ghost use mathlib.Core.Path.{_≡_};
+ghost use Prim.Native.Nat.{ℕ, _+_, _*_, _-_, _<_, _≤_, min};
+ghost use lib.ListN.{length, take, drop};
+ghost use Rattle.lines.specs.Bytes.{classOf, rank, isA, sameBytes};
+ghost use Rattle.lines.specs.Scan.{passes, run, digitsIn, numberIn, literalAt, endedAt, wordIs, headOf, cap};
+ghost use Rattle.lines.specs.Parts.{lineStart, fileOf, LinePart};
+
+// The classes of bytes.
+pub enum Class {
+    Blank,
+    LineEnd,
+    Digit,
+    Minus,
+    Letter,
+    Other,
+}
+
+pub fn class_of(b: u8) -> Class
+    ensures { λ r. ⌜ r ≡ classOf b ⌝ }
+{
+    match b {
+        32 | 9 | 13 => Class::Blank,
+        10 => Class::LineEnd,
+        48..=57 => Class::Digit,
+        45 => Class::Minus,
+        65..=90 | 97..=122 => Class::Letter,
+        _ => Class::Other,
+    }
+}
+
+// A class by its place in the list above.
+fn rank_of(k: Class) -> u8
+    ensures { λ r. ⌜ r ≡ rank k ⌝ }
+{
+    match k {
+        Class::Blank => 0,
+        Class::LineEnd => 1,
+        Class::Digit => 2,
+        Class::Minus => 3,
+        Class::Letter => 4,
+        Class::Other => 5,
+    }
+}
+
+fn is_a(k: Class, b: u8) -> bool
+    ensures { λ r. ⌜ r ≡ isA k b ⌝ }
+{
+    rank_of(class_of(b)) == rank_of(k)
+}
+
+// What a run of bytes is made of: all but byte 10, blanks, all but blanks.
+pub enum Run {
+    Line,
+    Blanks,
+    Word,
+}
+
+fn belongs(k: Run, b: u8) -> bool
+    ensures { λ r. ⌜ r ≡ passes k b ⌝ }
+{
+    match k {
+        Run::Line => !is_a(Class::LineEnd, b),
+        Run::Blanks => is_a(Class::Blank, b),
+        Run::Word => !is_a(Class::Blank, b),
+    }
+}
+
+// The place after the run of such bytes from a place on.
+pub fn past(s: &[u8], at: usize, k: Run) -> usize
+    ensures { λ r. ⌜ r ≡ at + run (passes k) (drop at (now (s .entry))) ⌝ }
+{
+    let mut i = at;
+    while i < s.len() {
+        if !belongs(k, s[i]) {
+            return i;
+        }
+        i += 1;
+    }
+    i
+}
+
+// One digit more, at most the cap.
+fn with_digit(v: u32, b: u8) -> u32
+    requires { ⌜ (v ≤ cap) × (48 ≤ b) ⌝ }
+    ensures { λ r. ⌜ r ≡ min cap (v * 10 + (b - 48)) ⌝ }
+{
+    let w = v * 10 + (b - 48) as u32;
+    if w < 100000000 {
+        return w;
+    }
+    100000000
+}
+
+pub enum Digits {
+    Value(u32),
+    Bad,
+}
+
+// The number that the bytes from a place on are.
+fn digits_from(word: &[u8], from: usize) -> Digits
+    ensures { λ r. ⌜ r ≡ digitsIn (drop from (now (word .entry))) ⌝ }
+{
+    if word.len() <= from {
+        return Digits::Bad;
+    }
+    let d = word[from];
+    if d == 48 {
+        if from + 1 == word.len() {
+            return Digits::Value(0);
+        }
+        return Digits::Bad;
+    }
+    let mut v: u32 = 0;
+    let mut i = from;
+    while i < word.len() {
+        let b = word[i];
+        if !is_a(Class::Digit, b) {
+            return Digits::Bad;
+        }
+        v = with_digit(v, b);
+        i += 1;
+    }
+    Digits::Value(v)
+}
+
+// A number, at most the cap; the same with a minus; anything else.
+pub enum Number {
+    Value(u32),
+    Minus(u32),
+    Bad,
+}
+
+// The number reader.
+pub fn number_of(word: &[u8]) -> Number
+    ensures { λ r. ⌜ r ≡ numberIn (now (word .entry)) ⌝ }
+{
+    if let Digits::Value(v) = digits_from(word, 0) {
+        return Number::Value(v);
+    }
+    if word.len() == 0 {
+        return Number::Bad;
+    }
+    if word[0] != 45 {
+        return Number::Bad;
+    }
+    let Digits::Value(v) = digits_from(word, 1) else {
+        return Number::Bad;
+    };
+    if v == 0 {
+        return Number::Bad;
+    }
+    Number::Minus(v)
+}
+
+// The code of a literal, 2v or 2v + 1, and the place after it.
+pub enum Literal {
+    Of(u32, usize),
+    Bad,
+}
+
+// The next token as a literal, or as the zero that ends a list.
+pub fn literal_at(line: &[u8], at: usize) -> Literal
+    ensures { λ r. ⌜ r ≡ literalAt (now (line .entry)) at ⌝ }
+{
+    let s = past(line, at, Run::Blanks);
+    if line.len() <= s {
+        return Literal::Bad;
+    }
+    let e = past(line, s, Run::Word);
+    match number_of(&line[s..e]) {
+        Number::Value(v) => Literal::Of(2 * v, e),
+        Number::Minus(v) => Literal::Of(2 * v + 1, e),
+        Number::Bad => Literal::Bad,
+    }
+}
+
+// Whether nothing more stands on the line.
+pub fn ended(line: &[u8], at: usize) -> bool
+    ensures { λ r. ⌜ r ≡ endedAt (now (line .entry)) at ⌝ }
+{
+    line.len() <= past(line, at, Run::Blanks)
+}
+
+fn same(a: &[u8], b: &[u8]) -> bool
+    ensures { λ r. ⌜ r ≡ sameBytes (now (a .entry)) (now (b .entry)) ⌝ }
+{
+    let mut i = 0;
+    while i < a.len() {
+        if b.len() <= i {
+            return false;
+        }
+        if a[i] != b[i] {
+            return false;
+        }
+        i += 1;
+    }
+    b.len() <= i
+}
+
+pub enum Found {
+    After(usize),
+    Nothing,
+}
+
+// Whether the next token is this word, and the place after it.
+pub fn word_is(line: &[u8], at: usize, word: &[u8]) -> Found
+    ensures { λ r. ⌜ r ≡ wordIs (now (line .entry)) at (now (word .entry)) ⌝ }
+{
+    let s = past(line, at, Run::Blanks);
+    if line.len() <= s {
+        return Found::Nothing;
+    }
+    let e = past(line, s, Run::Word);
+    if same(&line[s..e], word) {
+        return Found::After(e);
+    }
+    Found::Nothing
+}
+
+// How a line begins: it is skipped; with a word of one byte, and the place after it; with another word.
+pub enum Head {
+    Skipped,
+    Letter(u8, usize),
+    Other,
+}
+
+pub fn line_head(line: &[u8]) -> Head
+    ensures { λ r. ⌜ r ≡ headOf (now (line .entry)) ⌝ }
+{
+    let s = past(line, 0, Run::Blanks);
+    if line.len() <= s {
+        return Head::Skipped;
+    }
+    let b = line[s];
+    if b == 99 {
+        return Head::Skipped;
+    }
+    let e = past(line, s, Run::Word);
+    if e == s + 1 {
+        return Head::Letter(b, e);
+    }
+    Head::Other
+}
+
+// Where the line with this number starts; the end where there is no such line.
+fn line_start(s: &[u8], line: usize) -> usize
+    ensures { λ r. ⌜ r ≡ lineStart line (now (s .entry)) ⌝ }
+{
+    if line == 0 {
+        return s.len();
+    }
+    let mut at = 0;
+    let mut left = line - 1;
+    while 0 < left {
+        let e = past(s, at, Run::Line);
+        if s.len() <= e {
+            return s.len();
+        }
+        at = e + 1;
+        left -= 1;
+    }
+    at
+}
+
+// The line with this number, without byte 10; the empty part at the end where there is no such line.
+fn line_part(s: &[u8], line: usize) -> &[u8]
+    ensures { λ r. ⌜ LinePart (s .entry) line r ⌝ }
+{
+    let at = line_start(s, line);
+    let e = past(s, at, Run::Line);
+    &s[at..e]
+}
+
+// THE SECOND CALL: a line's bytes, as a part of the formula (file 1) or of the certificate (any other number).
+pub fn line_bytes<'a>(formula: &'a [u8], certificate: &'a [u8], file: u32, line: usize) -> &'a [u8]
+    ensures { λ r. ⌜ LinePart (fileOf file (formula .entry) (certificate .entry)) line r ⌝ }
+{
+    if file == 1 {
+        return line_part(formula, line);
+    }
+    line_part(certificate, line)
+}
