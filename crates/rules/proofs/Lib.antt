@@ -1,0 +1,24 @@
+-- The theorems about the rules.
+pub mod Kit
+pub mod Distinct
+pub mod CodesLaw
+pub mod Steps
+pub mod Judged
+pub mod Good
+pub mod Inductive
+pub mod Assignments
+pub mod ExpansionLaw
+pub mod ExpansionTests
+pub mod ProperLaw
+pub mod Ranges
+pub mod Valuation
+pub mod SatSound
+pub mod FalsityLaw
+pub mod Strategy
+pub mod Play
+pub mod Reading
+pub mod HintsForm
+pub mod ExpansionSound
+pub mod Sound
+pub mod Theorem
+pub mod Numbers

@@ -1,0 +1,268 @@
+-- The numbers, files and lines of verdicts.
+use mathlib.Core.Path.{_≡_, refl, sym, ap, subst, _∙_}
+use mathlib.Core.Logic.{_⊎_, inl, inr, _↔_}
+use mathlib.Core.Bool.{Bool, true, false, cond, _&&_, _||_}
+use mathlib.Core.List.{List, [], _∷_, _++_, map}
+use mathlib.Core.Option.{Option, none, some}
+use Prim.Native.Nat.{ℕ, suc, _+_, _≤_, _<_}
+use native.Mathlib.Omega.{arith}
+use lib.Dec.{eqb, leb}
+use lib.ListN.{length}
+use Rattle.lines.specs.Bytes.{isLineEnd}
+use Rattle.lines.specs.Lists.{all, any, keep, isEmpty}
+use Rattle.lines.specs.Lines.{longer, split, linesOf}
+use Rattle.rules.specs.Basics.{isIn, distinct}
+use Rattle.rules.specs.Literals.{vars, sameSet}
+use Rattle.rules.specs.Formula.{Formula, boundVar, bound, existential}
+use Rattle.rules.specs.Forms.{FormulaLine, problem, binding, clause, formulaLine, CertificateLine, mapping, hints, expansion, addition, deletion, certificateLine}
+use Rattle.rules.specs.Needs.{places, formulaNeeds}
+use Rattle.rules.specs.Limits.{Limits, allows, hasRoom}
+use Rattle.rules.specs.Step.{Step, next, Read, ended, refusedAt, _unless_, _then_, refuseIn, judgeBytes}
+use Rattle.rules.specs.Expansion.{copyVars, isMapped, goodAnnotation, mappingRules, expands}
+use Rattle.rules.specs.Propagation.{rup, rat}
+use Rattle.rules.specs.FormulaLines.{blank, withBound, withClause, upToV, judgeFormula, formulaEnd, readFormula}
+use Rattle.rules.specs.CertificateLines.{State, start, needing, inSequence, inRange, hintThere, noHintLeft, candidates, kindRules, accept, judge, certificateEnd, readCertificate}
+use Rattle.rules.specs.declared.Verdict.{Verdict}
+use Rattle.rules.specs.declared.Verdict.the-variants.{Accepted, Refused}
+use Rattle.rules.specs.Verdict.{numberOf, fileOf, lineOf, Checked, early, ofCertificate, ofFormula, check, verdict}
+use Rattle.rules.proofs.Judged.{OfRules, OfStep, OfRead, of-unless, of-then, of-refuseIn, file-keeps, bytes-keep}
+use Rattle.lines.proofs.Parts.{lines-count}
+
+-- "Number 1 .. 15"
+abbrev pub IsNumber : ℕ → Type 0
+IsNumber n = (1 ≤ n) × (n ≤ 15)
+
+-- nothing is asked of states
+module _ {S : Type 0} where
+  abbrev Any : S → Type 0
+  Any s = Unit {0}
+
+  abbrev Numbered : ℕ → S → Type 0
+  Numbered n s = IsNumber n
+
+  -- the rules r, in the state s, refuse with numbers of the table
+  abbrev Rules : S → Option ℕ → Type 0
+  Rules s r = OfRules Any Numbered r s
+
+  abbrev Steps : Step S → Type 0
+  Steps = OfStep Any Numbered
+
+  module _ (s : S) where
+    one : (n : ℕ) (b : Bool) → IsNumber n → Rules s (n unless b)
+    one n b h = of-unless Any Numbered n b s h
+
+    two : (m : ℕ) (a : Bool) (n : ℕ) (b : Bool) → IsNumber m → IsNumber n → Rules s (m unless a then n unless b)
+    two m a n b h k = of-then Any Numbered (m unless a) (n unless b) s (one m a h) (one n b k)
+
+    three : (m : ℕ) (a : Bool) (n : ℕ) (b : Bool) (o : ℕ) (c : Bool) → IsNumber m → IsNumber n → IsNumber o
+        → Rules s (m unless a then n unless b then o unless c)
+    three m a n b o c h k j = of-then Any Numbered (m unless a) (n unless b then o unless c) s (one m a h) (two n b o c k j)
+
+    guarded : (r : Option ℕ) (step : Step S) → Rules s r → Steps step → Steps (refuseIn s r step)
+    guarded r step p q = of-refuseIn Any Numbered s r step p λ e. q
+
+module _ (limits : Limits) where
+  formula-step : (s : Option Formula) (line : FormulaLine) → Steps (judgeFormula limits s line)
+  unfolding judgeFormula
+  formula-step none (problem v c) =
+      guarded none (3 unless (allows (limits .highest) v && allows (limits .clauses) c))
+      (refuseIn (some (blank v c)) (15 unless hasRoom (limits .lengths) (formulaNeeds (blank v c))) (next (some (blank v c))))
+      (one {S = Option Formula} none 3 (allows (limits .highest) v && allows (limits .clauses) c) (omega arith))
+      (guarded (some (blank v c)) (15 unless hasRoom (limits .lengths) (formulaNeeds (blank v c))) (next (some (blank v c)))
+      (one (some (blank v c)) 15 (hasRoom (limits .lengths) (formulaNeeds (blank v c))) (omega arith)) tt)
+  formula-step none (binding bs) = omega arith
+  formula-step none (clause c) = omega arith
+  formula-step (some f) (problem v c) = omega arith
+  formula-step (some f) (binding bs) =
+      guarded (some f) (2 unless empty then 3 unless range then 4 unless new) (next (some (withBound f bs)))
+      (three (some f) 2 empty 3 range 4 new (omega arith) (omega arith) (omega arith)) tt
+    where
+      empty : Bool
+      empty = isEmpty (f .matrix)
+
+      range : Bool
+      range = upToV f (map boundVar bs)
+
+      new : Bool
+      new = distinct (map boundVar bs ++ bound f)
+  formula-step (some f) (clause c) =
+      guarded (some f) (3 unless range) (refuseIn (some (withClause f c)) (15 unless room then 5 unless are then 6 unless few) (next (some (withClause f c))))
+      (one (some f) 3 range (omega arith))
+      (guarded (some (withClause f c)) (15 unless room then 5 unless are then 6 unless few) (next (some (withClause f c)))
+      (three (some (withClause f c)) 15 room 5 are 6 few (omega arith) (omega arith) (omega arith)) tt)
+    where
+      range : Bool
+      range = upToV f (vars c)
+
+      room : Bool
+      room = hasRoom (limits .lengths) (formulaNeeds (withClause f c))
+
+      are : Bool
+      are = all (isIn (bound f)) (vars c)
+
+      few : Bool
+      few = leb (length (f .matrix) + 1) (f .count)
+
+  formula-end : (s : Option Formula) → Rules s (formulaEnd limits s)
+  unfolding formulaEnd
+  formula-end none = omega arith
+  formula-end (some f) = one (some f) 6 (eqb (length (f .matrix)) (f .count)) (omega arith)
+
+  module _ (f : Formula) where
+    kind-rules : (s : State) (line : CertificateLine) → Rules s (kindRules limits f s line)
+    unfolding kindRules mappingRules
+    kind-rules s (mapping ps es ls) =
+        two s 7 (distinct (ps ++ copyVars (s .mapped))) 8 (all (existential f) es && goodAnnotation f es ls) (omega arith) (omega arith)
+    kind-rules s (hints ns) = tt
+    kind-rules s (expansion c) =
+        three s 9 (all (isMapped (s .mapped)) (vars c)) 10 (hintThere s) 11 (any (expands f (s .mapped) c) (candidates s f))
+        (omega arith) (omega arith) (omega arith)
+    kind-rules s (addition c) =
+        two s 10 (noHintLeft s) 12 (rup (s .standing) c || rat (s .standing) c) (omega arith) (omega arith)
+    kind-rules s (deletion c) = two s 10 (noHintLeft s) 13 (any (sameSet c) (s .standing)) (omega arith) (omega arith)
+
+    certificate-step : (s : State) (line : CertificateLine) → Steps (judge limits f s line)
+    unfolding judge
+    certificate-step s line =
+        guarded s (2 unless inSequence s line then 3 unless inRange limits f line) (refuseIn (needing s line) rules (next after))
+        (two s 2 (inSequence s line) 3 (inRange limits f line) (omega arith) (omega arith))
+        (guarded (needing s line) rules (next after)
+        (of-then Any Numbered (15 unless room) (kindRules limits f (needing s line) line) (needing s line)
+        (one (needing s line) 15 room (omega arith)) (kind-rules (needing s line) line))
+        tt)
+      where
+        room : Bool
+        room = hasRoom (limits .lengths) (needing s line .needs)
+
+        rules : Option ℕ
+        rules = 15 unless room then kindRules limits f (needing s line) line
+
+        after : State
+        after = accept limits f (needing s line) line
+
+    certificate-end : (s : State) → Rules s (certificateEnd limits f s)
+    unfolding certificateEnd
+    certificate-end s = two s 10 (noHintLeft s) 14 (any isEmpty (s .standing)) (omega arith) (omega arith)
+
+    certificate-read : (bs : List ℕ) → OfRead Any Numbered (certificateEnd limits f) (suc (length (linesOf bs))) (readCertificate limits f bs)
+    unfolding readCertificate
+    certificate-read bs =
+        file-keeps Any Numbered (judgeBytes certificateLine (judge limits f)) (certificateEnd limits f)
+        (bytes-keep Any Numbered certificateLine (judge limits f) (λ s p. omega arith) (λ s line p. certificate-step s line))
+        (λ s p. certificate-end s) bs (start f) tt
+
+  formula-read : (bs : List ℕ) → OfRead Any Numbered (formulaEnd limits) (suc (length (linesOf bs))) (readFormula limits bs)
+  unfolding readFormula
+  formula-read bs =
+      file-keeps Any Numbered (judgeBytes formulaLine (judgeFormula limits)) (formulaEnd limits)
+      (bytes-keep Any Numbered formulaLine (judgeFormula limits) (λ s p. omega arith) (λ s line p. formula-step s line))
+      (λ s p. formula-end s) bs none tt
+
+-- a number, file and line of a refusal: the line is one of its file, or 0
+abbrev Refusal : List ℕ → List ℕ → Verdict → Type 0
+Refusal formula certificate Accepted = Unit {0}
+Refusal formula certificate (Refused number file line) =
+    IsNumber number
+    × (((file ≡ 1) × (line ≤ length (linesOf formula))) ⊎ ((file ≡ 2) × (line ≤ length (linesOf certificate))))
+
+module _ (limits : Limits) (formula certificate : List ℕ) where
+  abbrev Fine : Checked → Type 0
+  Fine c = Refusal formula certificate (c .report .verdict)
+
+  of-certificate : (f : Formula) (r : Read State) → OfRead Any Numbered (certificateEnd limits f) (suc (length (linesOf certificate))) r → Fine (ofCertificate r)
+  of-certificate f (ended s) h = tt
+  of-certificate f (refusedAt n line s) h = (h .0, inr (refl, omega arith))
+
+  of-formula : (k : Formula → Checked) → ((f : Formula) → Fine (k f)) → (r : Read (Option Formula))
+      → OfRead Any Numbered (formulaEnd limits) (suc (length (linesOf formula))) r → Fine (ofFormula r k)
+  of-formula k go (ended none) h = (omega arith, inl (refl, omega arith))
+  of-formula k go (ended (some f)) h = go f
+  of-formula k go (refusedAt n line s) h = (h .0, inl (refl, omega arith))
+
+  rest : Checked
+  rest = ofFormula (readFormula limits formula) λ f. ofCertificate (readCertificate limits f certificate)
+
+  rest-fine : Fine rest
+  unfolding rest
+  rest-fine =
+      of-formula (λ f. ofCertificate (readCertificate limits f certificate))
+      (λ f. of-certificate f (readCertificate limits f certificate) (certificate-read limits f certificate))
+      (readFormula limits formula) (formula-read limits formula)
+
+  -- "Order: 1 for the formula, 1 for the certificate, formula lines, certificate lines."
+  abbrev in-order : Bool → Bool → Checked
+  in-order a b = cond a (cond b rest (early (Refused 1 2 0) (places 0 0 0 0 0 0))) (early (Refused 1 1 0) (places 0 0 0 0 0 0))
+
+  in-order-fine : (a b : Bool) → Fine (in-order a b)
+  in-order-fine true true = rest-fine
+  in-order-fine true false = (omega arith, inr (refl, omega arith))
+  in-order-fine false b = (omega arith, inl (refl, omega arith))
+
+  check-fine : Fine (check limits formula certificate)
+  unfolding check rest
+  check-fine = in-order-fine (allows (limits .formulaBytes) (length formula)) (allows (limits .certificateBytes) (length certificate))
+
+  pub overlong-formula : allows (limits .formulaBytes) (length formula) ≡ false → verdict limits formula certificate .verdict ≡ Refused 1 1 0
+  unfolding verdict check rest
+  overlong-formula e = ap (λ a. in-order a (allows (limits .certificateBytes) (length certificate)) .report .verdict) e
+
+  pub overlong-certificate : allows (limits .formulaBytes) (length formula) ≡ true
+      → allows (limits .certificateBytes) (length certificate) ≡ false → verdict limits formula certificate .verdict ≡ Refused 1 2 0
+  unfolding verdict check rest
+  overlong-certificate e c =
+      ap (λ a. in-order a (allows (limits .certificateBytes) (length certificate)) .report .verdict) e
+      ∙ ap (λ b. in-order true b .report .verdict) c
+
+-- THE FIELDS OF A VERDICT on two files
+pub record Ranged (formula certificate : List ℕ) (v : Verdict) : Type 0 where
+  pub number : numberOf v ≤ 15
+  pub file : fileOf v ≤ 2
+  pub accepted : (v ≡ Accepted) ↔ (numberOf v ≡ 0)
+  -- "number, file and line are then 0"
+  pub zeros : v ≡ Accepted → (numberOf v ≡ 0) × (fileOf v ≡ 0) × (lineOf v ≡ 0)
+  -- a refusal has a number of the table; its line is 0 or stands in its file
+  pub refused : (n file line : ℕ) → v ≡ Refused n file line → IsNumber n
+      × (((file ≡ 1) × (line ≤ length (linesOf formula))) ⊎ ((file ≡ 2) × (line ≤ length (linesOf certificate))))
+
+module _ (formula certificate : List ℕ) where
+  other : (n file line : ℕ) → Refused n file line ≡ Accepted → ⊥
+  other n file line e = let z : _≡_ {A = ℕ} 0 1 = cc in omega arith
+
+  at-most-two : (n file line : ℕ) → Refusal formula certificate (Refused n file line) → file ≤ 2
+  at-most-two n file line (k, inl h) = omega arith
+  at-most-two n file line (k, inr h) = omega arith
+
+  ranged : (v : Verdict) → Refusal formula certificate v → Ranged formula certificate v
+  ranged Accepted h = record {
+    number = omega arith;
+    file = omega arith;
+    accepted = (λ e. refl, λ e. refl);
+    zeros = λ e. (refl, refl, refl);
+    refused = λ n file line e. absurd (other n file line (sym e));
+  }
+  ranged (Refused m place at) h = record {
+    number = h .0 .1;
+    file = at-most-two m place at h;
+    accepted = (λ e. absurd (other m place at e), λ e. absurd (omega arith));
+    zeros = λ e. absurd (other m place at e);
+    refused = λ n file line e. subst (Refusal formula certificate) e h;
+  }
+
+pub verdict-ranged : (limits : Limits) (formula certificate : List ℕ)
+    → Ranged formula certificate (verdict limits formula certificate .verdict)
+unfolding verdict
+verdict-ranged limits formula certificate =
+    ranged formula certificate (check limits formula certificate .report .verdict) (check-fine limits formula certificate)
+
+-- a file has at most one line more than bytes
+keep-most : (p : ℕ → Bool) (bs : List ℕ) → length (keep p bs) ≤ length bs
+keep-most p [] = omega arith
+keep-most p (b ∷ bs) = go (p b) (keep-most p bs)
+  where
+    go : (t : Bool) → length (keep p bs) ≤ length bs
+        → length {A = ℕ} (elim t as (λ _. List ℕ) [ true ↦ b ∷ keep p bs | false ↦ keep p bs ]) ≤ suc (length bs)
+    go true h = omega arith
+    go false h = omega arith
+
+pub lines-most : (bs : List ℕ) → length (linesOf bs) ≤ suc (length bs)
+lines-most bs = omega (arith, lines-count bs, keep-most isLineEnd bs)

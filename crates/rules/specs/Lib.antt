@@ -1,0 +1,19 @@
+-- Document 01 as definitions, in its order; `Least` and `Codes` are further readings, and `Twelve` and `Rows` the worked checks.
+pub mod Basics
+pub mod Literals
+pub mod Formula
+pub mod Forms
+pub mod Needs
+pub mod Limits
+pub mod Step
+pub mod Expansion
+pub mod Propagation
+pub mod FormulaLines
+pub mod CertificateLines
+pub mod Verdict
+pub mod Falsity
+pub mod Render
+pub mod Least
+pub mod Codes
+pub mod Twelve
+pub mod Rows
