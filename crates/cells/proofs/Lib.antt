@@ -1,0 +1,2 @@
+-- Laws of a table's places.
+pub mod Laws

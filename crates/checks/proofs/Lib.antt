@@ -1,0 +1,3 @@
+-- Laws of a list of checks.
+pub mod ListLaws
+pub mod Examples

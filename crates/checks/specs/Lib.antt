@@ -1,0 +1,3 @@
+-- What a list of checks comes to.
+pub mod All
+pub mod One

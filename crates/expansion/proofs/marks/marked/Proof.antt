@@ -1,0 +1,19 @@
+use borrow.Author.Needs.{needs}
+use Rattle.expansion.proofs.MarkLaws.{marked-is}
+use Rattle.expansion.proofs.marks.marked.Statement.{statement}
+use Rattle.expansion.proofs.marks.marked.Tie as tie
+
+element-copy-out-result : tie.Need-element-copy-out-result
+element-copy-out-result c = search needs
+
+returns : tie.Need-returns
+returns c = marked-is _ _ _ (c .before .before .pre) (c .before .if1 .taken)
+
+has-requires : tie.Need-has-requires
+has-requires c κs = search needs
+
+returns-2 : tie.Need-returns-2
+returns-2 c = search needs
+
+pub marked-spec : {M : Type 1} → statement M
+marked-spec = tie.close (tie.spec element-copy-out-result returns has-requires returns-2)

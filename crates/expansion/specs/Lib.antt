@@ -1,0 +1,3 @@
+-- The expansion test over codes, and marks.
+pub mod Marks
+pub mod Codes

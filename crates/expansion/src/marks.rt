@@ -1,0 +1,58 @@
+// Membership in a table's list of codes, through marks in a local array.
+use crate::read;
+ghost use mathlib.Core.Path.{_≡_};
+ghost use Rattle.cells.specs.Cells.{listAt};
+ghost use Rattle.rules.specs.Basics.{isIn};
+ghost use Rattle.expansion.specs.Marks.{stamp, marks, Marked};
+
+// Marks a code; one above every code of a formula's literal is passed over.
+pub fn mark_one(seen: &mut [u8; 8194], y: usize)
+    ensures { λ _. ⌜ now (seen .exit) ≡ stamp (now (seen .entry)) y ⌝ }
+{
+    if y < 8194 {
+        seen[y] = 1;
+    }
+}
+
+// Marks the codes from place a on.
+pub fn mark(seen: &mut [u8; 8194], t: &[i32], a: usize)
+    ensures { λ _. ⌜ now (seen .exit) ≡ marks (listAt (now (t .entry)) a) (now (seen .entry)) ⌝ }
+{
+    let mut i = a;
+    loop {
+        let y = read::code(t, i);
+        if y == 0 {
+            return;
+        }
+        mark_one(seen, y);
+        i += 1;
+    }
+}
+
+// Whether y is among the codes from place a on, without marks.
+pub fn has(t: &[i32], a: usize, y: usize) -> bool
+    ensures { λ r. ⌜ r ≡ isIn (listAt (now (t .entry)) a) y ⌝ }
+{
+    let mut i = a;
+    loop {
+        let x = read::code(t, i);
+        if x == 0 {
+            return false;
+        }
+        if y == x {
+            return true;
+        }
+        i += 1;
+    }
+}
+
+// The same where those codes are marked.
+pub fn marked(seen: &[u8; 8194], t: &[i32], a: usize, y: usize) -> bool
+    requires { ⌜ Marked (now seen) (listAt (now t) a) ⌝ }
+    ensures { λ r. ⌜ r ≡ isIn (listAt (now (t .entry)) a) y ⌝ }
+{
+    if y < 8194 {
+        return seen[y] == 1;
+    }
+    has(t, a, y)
+}

@@ -1,0 +1,219 @@
+-- Laws of candidates, of the walk over them, and of the whole addition. Assumes nothing.
+use mathlib.Core.Path.{_≡_, refl, sym, _∙_, ap, ap₂, subst}
+use mathlib.Core.Bool.{Bool, true, false, _||_}
+use mathlib.Core.List.{List, [], _∷_, _++_, map, append-nil}
+use Prim.Native.Nat.{ℕ, _+_, _*_, _/_, _%_, _≤_, _<_}
+use native.Mathlib.Omega.{arith}
+use lib.IntN.{ℤ, pos}
+use lib.ListN.{length, getD, set}
+use borrow.Author.Count.{below-more}
+use Rattle.cells.specs.Cells.{cellAt, listAt}
+use Rattle.cells.proofs.Laws.{list-past, stored}
+use Rattle.lines.specs.Lists.{all, keep}
+use Rattle.rules.specs.Basics.{isIn}
+use Rattle.rules.specs.Literals.{Lits, negate, holds}
+use Rattle.rules.specs.Codes.{litOf, flip}
+use Rattle.rules.specs.Propagation.{rup, less, rat}
+use Rattle.rules.proofs.Kit.{clear, by-yes, all-in, in-all, keep-in, in-keep}
+use Rattle.rules.proofs.CodesLaw.{lit-flip}
+use Rattle.ferat.specs.declared.addition.Addition.the-variants.{Accepted, Refused}
+use Rattle.ferat.specs.declared.propagation.Propagated.{Propagated}
+use Rattle.ferat.specs.Standing.{clauseAt, standing, literals}
+use Rattle.ferat.specs.Trail.{In, Good, Denies, truth, Ready, Undone, Holds, Moved, Clash, Held}
+use Rattle.ferat.specs.Additions.{rupOf, ratOn, ratOf, accepts, lessCode, Both, Refuted, Follows, Tried, Decided}
+use Rattle.ferat.proofs.TrailLaws.{ready-undone}
+use Rattle.ferat.proofs.StandingLaws.{standing-in, standing-out, standing-grow}
+use Rattle.ferat.proofs.DenyLaws.{denies-part, less-nil}
+use Rattle.ferat.proofs.BridgeLaws.{in-map, map-in, map-append, holds-lit, less-lits, rup-true, rup-false}
+
+-- WHAT STAYS ON THE TRAIL between lines
+module _ {S : List (List ℕ)} where
+  pub held-moved : {f₀ t₀ : List ℕ} {n₀ : ℕ} {f t : List ℕ} {n : ℕ} → Held S f₀ t₀ n₀ → Moved (Good S) f₀ t₀ n₀ f t n → Held S f t n
+  held-moved h m = record { ready = m .ready; based = λ Q g. m .sound Q g (h .based Q g) }
+
+  pub held-kept : {f t : List ℕ} {n : ℕ} {f′ t′ : List ℕ} → Held S f t n → Ready f′ t′ n → ((k : ℕ) → k < n → getD t′ k 0 ≡ getD t k 0) → Held S f′ t′ n
+  held-kept h r e = record { ready = r; based = unfold Holds in (λ Q g k lt. ap (λ (x : ℕ). Q (flip x)) (e k lt) ∙ h .based Q g k lt) }
+
+-- a clause more
+pub held-more : {S S′ : List (List ℕ)} {f t : List ℕ} {n : ℕ} → ((d : List ℕ) → In d S → In d S′) → Held S f t n → Held S′ f t n
+held-more i h = record {
+  ready = h .ready;
+  based = λ Q g. h .based Q (record { consistent = g .consistent; closed = λ c x. g .closed c (i c x) });
+}
+
+-- A CANDIDATE d, on top of the trail of the failed RUP
+module _ (S : List (List ℕ)) (c : List ℕ) where
+  pub follows-moved : {f₀ t₀ : List ℕ} {n₀ : ℕ} {f t : List ℕ} {n : ℕ} → Held S f₀ t₀ n₀ → Moved (Both S c) f₀ t₀ n₀ f t n → Follows S c t n
+  unfolding Follows
+  follows-moved h m = λ Q g d. m .sound Q (g, d) (h .based Q g)
+
+  pub follows-kept : (t t′ : List ℕ) (n : ℕ) → ((k : ℕ) → k < n → getD t′ k 0 ≡ getD t k 0) → Follows S c t n → Follows S c t′ n
+  unfolding Follows Holds
+  follows-kept t t′ n e h = λ Q g d k lt. ap (λ (x : ℕ). Q (flip x)) (e k lt) ∙ h Q g d k lt
+
+  module _ (d : List ℕ) {f t : List ℕ} {n : ℕ} {f′ t′ : List ℕ} {k : ℕ} {f″ : List ℕ} (u : Undone f′ t′ n f″) where
+    tried : Moved (Both S (c ++ d)) f t n f′ t′ k → Tried t n f″ t′
+    tried m = record { ready = ready-undone f′ t′ k n f″ (m .ready) u; kept = m .kept }
+
+    pub tried-clash : Follows S c t n → Moved (Both S (c ++ d)) f t n f′ t′ k × Clash (Both S (c ++ d)) t n → Tried t n f″ t′ × (true ≡ rupOf S (c ++ d))
+    unfolding Follows
+    tried-clash h v =
+        (tried (v .0), sym (rup-true S (c ++ d) (λ Q g e. v .1 Q (g, e) (h Q g (denies-part Q c d e)))))
+
+    pub tried-good : Moved (Both S (c ++ d)) f t n f′ t′ k × Good S (truth f′) × Denies (truth f′) (c ++ d) → Tried t n f″ t′ × (false ≡ rupOf S (c ++ d))
+    tried-good v = (tried (v .0), sym (rup-false S (c ++ d) (truth f′) (v .1) (v .2)))
+
+tried-trans : (t₀ : List ℕ) (n : ℕ) (f t f′ t′ : List ℕ) → Tried t₀ n f t → Tried t n f′ t′ → Tried t₀ n f′ t′
+tried-trans t₀ n f t f′ t′ a b = record { ready = b .ready; kept = λ k h. b .kept k h ∙ a .kept k h }
+
+pub tried-self : (f t : List ℕ) (n : ℕ) → Ready f t n → Tried t n f t
+tried-self f t n r = record { ready = r; kept = λ k h. refl }
+
+-- THE RULE over codes: clause j is no candidate, or passes
+module _ (t ms : List ℤ) (count l : ℕ) (c : List ℕ) where
+  abbrev joinedWith : List ℕ → List ℕ
+  joinedWith d = c ++ lessCode (flip l) d
+
+  abbrev pub Passes : ℕ → Type 0
+  Passes j = (cellAt ms j % 2 ≡ 0 → ⊥) → isIn (clauseAt t ms j) (flip l) ≡ true → rupOf (standing t ms count) (joinedWith (clauseAt t ms j)) ≡ true
+
+  abbrev test : Lits → Bool
+  test d = holds d (negate (litOf l))
+
+  abbrev passing : Lits → Bool
+  passing d = rup (literals (standing t ms count)) (map litOf c ++ less (negate (litOf l)) d)
+
+  test-lits : (d : List ℕ) → test (map litOf d) ≡ isIn d (flip l)
+  test-lits d = ap (holds (map litOf d)) (sym (lit-flip l)) ∙ holds-lit d (flip l)
+
+  passing-lits : (d : List ℕ) → passing (map litOf d) ≡ rupOf (standing t ms count) (joinedWith d)
+  unfolding rupOf
+  passing-lits d =
+      ap (rup (literals (standing t ms count)))
+      (sym (map-append litOf c (lessCode (flip l) d)
+      ∙ ap (λ (z : Lits). map litOf c ++ z) (less-lits (flip l) d ∙ ap (λ x. less x (map litOf d)) (lit-flip l))))
+
+  pub rat-true : ((j : ℕ) → j < count → Passes j) → true ≡ ratOn (standing t ms count) c l
+  unfolding ratOn
+  rat-true h = sym (in-all passing (keep test (literals (standing t ms count))) (λ d i.
+      let k = in-keep test d (literals (standing t ms count)) i in
+      let s = map-in (map litOf) d (standing t ms count) (k .0) in
+      let o = standing-out t ms count (s .0) (s .1) in
+      let e : d ≡ map litOf (clauseAt t ms (o .0)) = s .2 ∙ ap (map litOf) (o .3) in
+      ap passing e ∙ passing-lits (clauseAt t ms (o .0))
+      ∙ h (o .0) (o .1) (o .2) (sym (test-lits (clauseAt t ms (o .0))) ∙ sym (ap test e) ∙ k .1)))
+
+  pub rat-false : (j : ℕ) → j < count → (cellAt ms j % 2 ≡ 0 → ⊥) → isIn (clauseAt t ms j) (flip l) ≡ true
+      → rupOf (standing t ms count) (joinedWith (clauseAt t ms j)) ≡ false → false ≡ ratOn (standing t ms count) c l
+  unfolding ratOn
+  rat-false j lt odd held fails = sym (by-yes (all passing (keep test (literals (standing t ms count)))) (λ h. clear
+      (all-in passing h (keep-in test (in-map (map litOf) (standing-in t ms count j lt odd)) (test-lits (clauseAt t ms j) ∙ held)))
+      (passing-lits (clauseAt t ms j) ∙ fails)))
+
+-- THE WALK over the candidates, up to clause k
+pub record Walking (t ms : List ℤ) (count from l : ℕ) (c t₀ f tr : List ℕ) (k : ℕ) : Type 0 where
+  pub tried : Tried t₀ from f tr
+  pub passed : (j : ℕ) → j < k → Passes t ms count l c j
+
+pub walking-start : (t ms : List ℤ) (count from l : ℕ) (c f tr : List ℕ) → Ready f tr from → Walking t ms count from l c tr f tr 0
+walking-start t ms count from l c f tr r = record { tried = tried-self f tr from r; passed = λ j h. absurd (omega arith) }
+
+module _ (t ms : List ℤ) (count from l : ℕ) (c t₀ f tr : List ℕ) (k : ℕ) (w : Walking t ms count from l c t₀ f tr k) where
+  pub walking-end : count ≤ k → Tried t₀ from f tr × (true ≡ ratOn (standing t ms count) c l)
+  walking-end h = (w .tried, rat-true t ms count l c (λ j lt. w .passed j (omega arith)))
+
+  module _ (lt : k < count) (m : ℕ) (em : m ≡ cellAt ms k) where
+    pub walking-off : m % 2 ≡ 0 → Walking t ms count from l c t₀ f tr (k + 1)
+    walking-off z = record {
+      tried = w .tried;
+      passed = below-more (Passes t ms count l c) k (w .passed) (λ odd. absurd (odd (ap (λ i. i % 2) (sym em) ∙ z)));
+    }
+
+    module _ (odd : m % 2 ≡ 0 → ⊥) (at skip : ℕ) (ea : at ≡ m / 2) (es : skip ≡ flip l) (h : Bool) (eh : h ≡ isIn (listAt t at) skip) where
+      place : at ≡ cellAt ms k / 2
+      place = ea ∙ ap (λ i. i / 2) em
+
+      held : isIn (clauseAt t ms k) (flip l) ≡ h
+      held = sym (eh ∙ ap₂ (λ (a x : ℕ). isIn (listAt t a) x) place es)
+
+      pub walking-out : h ≡ false → Walking t ms count from l c t₀ f tr (k + 1)
+      walking-out z = record {
+        tried = w .tried;
+        passed = below-more (Passes t ms count l c) k (w .passed) (λ o y. absurd (clear y (held ∙ z)));
+      }
+
+      module _ (yes : h ≡ true) (f′ t′ : List ℕ) (r : Bool)
+          (v : Tried tr from f′ t′ × (r ≡ rupOf (standing t ms count) (c ++ lessCode skip (listAt t at)))) where
+        says : rupOf (standing t ms count) (c ++ lessCode (flip l) (clauseAt t ms k)) ≡ r
+        says = sym (v .1 ∙ ap₂ (λ (x a : ℕ). rupOf (standing t ms count) (c ++ lessCode x (listAt t a))) es place)
+
+        after : Tried t₀ from f′ t′
+        after = tried-trans t₀ from f tr f′ t′ (w .tried) (v .0)
+
+        pub walking-yes : r ≡ true → Walking t ms count from l c t₀ f′ t′ (k + 1)
+        walking-yes z = record { tried = after; passed = below-more (Passes t ms count l c) k (w .passed) (λ o y. says ∙ z) }
+
+        pub walking-no : r ≡ false → Tried t₀ from f′ t′ × (false ≡ ratOn (standing t ms count) c l)
+        walking-no z =
+            (after, rat-false t ms count l c k lt (λ y. odd (ap (λ i. i % 2) em ∙ y)) (held ∙ yes) (says ∙ z))
+
+-- the first written literal
+pub rat-none : (S : List (List ℕ)) (c : List ℕ) → c ≡ [] → false ≡ ratOf S c
+unfolding ratOf rat
+rat-none S c e = sym (ap (λ (x : List ℕ). rat (literals S) (map litOf x)) e)
+
+pub rat-first : (S : List (List ℕ)) (c : List ℕ) (l : ℕ) (c′ : List ℕ) → c ≡ l ∷ c′ → ratOn S c l ≡ ratOf S c
+rat-first S c l c′ e = subst (λ (x : List ℕ). ratOn S x l ≡ ratOf S x) (sym e) (unfold ratOn ratOf rat in refl)
+
+-- THE WHOLE LINE: the clause alone is the clause joined with nothing
+pub alone : (t : List ℤ) (c : List ℕ) → c ++ lessCode 0 (listAt t (length t)) ≡ c
+alone t c = ap (λ (x : List ℕ). c ++ x) (ap (lessCode 0) (list-past t (length t) (omega arith)) ∙ less-nil 0) ∙ append-nil c
+
+pub refuted-as : (S : List (List ℕ)) (c c′ f₀ t₀ : List ℕ) (n₀ : ℕ) (f t : List ℕ) (r : Propagated) → c ≡ c′ → Refuted S c f₀ t₀ n₀ f t r → Refuted S c′ f₀ t₀ n₀ f t r
+refuted-as S c c′ f₀ t₀ n₀ f t r e v = subst (λ (x : List ℕ). Refuted S x f₀ t₀ n₀ f t r) e v
+
+module _ (S : List (List ℕ)) (c : List ℕ) where
+  accepts-rup : rupOf S c ≡ true → accepts S c ≡ true
+  unfolding accepts rupOf
+  accepts-rup e = ap (λ b. b || rat (literals S) (map litOf c)) e
+
+  accepts-rat : rupOf S c ≡ false → accepts S c ≡ ratOf S c
+  unfolding accepts rupOf ratOf
+  accepts-rat e = ap (λ b. b || rat (literals S) (map litOf c)) e
+
+  module _ {f₀ t₀ : List ℕ} {n₀ : ℕ} (h : Held S f₀ t₀ n₀) {f t : List ℕ} where
+    -- a conflict of the standing clauses alone
+    pub decided-closed : {b : ℕ} (q : ℕ) → Moved (Good S) f₀ t₀ n₀ f t b × Clash (Good S) t₀ n₀ → Decided S c f t (Accepted (record { n = b; q = q }))
+    unfolding Decided
+    decided-closed q v = (held-moved h (v .0), accepts-rup (rup-true S c (λ Q g d. v .1 Q g (h .based Q g))))
+
+    pub decided-rup : {k : ℕ} (q : ℕ) (f′ : List ℕ) → Undone f t n₀ f′ → Moved (Both S c) f₀ t₀ n₀ f t k × Clash (Both S c) t₀ n₀
+        → Decided S c f′ t (Accepted (record { n = n₀; q = q }))
+    unfolding Decided
+    decided-rup {k} q f′ u v =
+        (held-kept h (ready-undone f t k n₀ f′ (v .0 .ready) u) (v .0 .kept), accepts-rup (rup-true S c (λ Q g d. v .1 Q (g, d) (h .based Q g))))
+
+    module _ {k : ℕ} (v : Moved (Both S c) f₀ t₀ n₀ f t k × Good S (truth f) × Denies (truth f) c) (f′ t′ : List ℕ) (ok : Bool)
+        (w : Tried t k f′ t′ × (ok ≡ ratOf S c)) where
+      answer : accepts S c ≡ ok
+      answer = accepts-rat (rup-false S c (truth f) (v .1) (v .2)) ∙ sym (w .1)
+
+      pub decided-rat : (q : ℕ) (f″ : List ℕ) → Undone f′ t′ n₀ f″ → ok ≡ true → Decided S c f″ t′ (Accepted (record { n = n₀; q = q }))
+      unfolding Decided
+      decided-rat q f″ u e =
+          (held-kept h (ready-undone f′ t′ k n₀ f″ (w .0 .ready) u) (λ j lt. w .0 .kept j (omega (arith, v .0 .up)) ∙ v .0 .kept j lt), answer ∙ e)
+
+      pub decided-no : ok ≡ false → Decided S c f′ t′ Refused
+      unfolding Decided
+      decided-no e = answer ∙ e
+
+-- THE CLAUSE STANDS
+pub mark-stored : (ms ms′ : List ℤ) (count used : ℕ) → used < 1073741824 → ms′ ≡ set ms count (pos ((2 * used + 1) % 2147483648))
+    → ms′ ≡ set ms count (pos (2 * used + 1))
+mark-stored ms ms′ count used h e =
+    let z : 2 * used + 1 < 2147483648 = omega arith in e ∙ ap (λ (v : ℕ). set ms count (pos v)) (stored z)
+
+pub held-stand : (t ms ms′ : List ℤ) (count v : ℕ) {f tr : List ℕ} {n : ℕ} → ms′ ≡ set ms count (pos v) → Held (standing t ms count) f tr n
+    → Held (standing t ms′ (count + 1)) f tr n
+held-stand t ms ms′ count v e h =
+    held-more (λ d x. subst (λ (m : List ℤ). In d (standing t m (count + 1))) (sym e) (standing-grow t ms count v d x)) h

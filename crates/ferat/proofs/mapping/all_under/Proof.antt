@@ -1,0 +1,60 @@
+use borrow.Author.Needs.{needs}
+use native.Mathlib.Omega.{arith}
+use mathlib.Core.Path.{_≡_, refl, sym, _∙_}
+use Prim.Native.Nat.{_-_}
+use lib.ListN.{length}
+use Rattle.lines.specs.Lists.{all}
+use Rattle.prefix.specs.Prefix.{entry}
+use Rattle.ferat.specs.MappingLine.{numbersAt, under}
+use Rattle.ferat.proofs.NumberLaws.{item-told, all-end, all-more, all-fails}
+use Rattle.ferat.proofs.mapping.all_under.Statement.{statement}
+use Rattle.ferat.proofs.mapping.all_under.Tie as tie
+
+abbrev Inv-loop : tie.InvT-loop
+Inv-loop line at prefix g i₀ i = all (under (entry prefix) g) (numbersAt line i) ≡ all (under (entry prefix) g) (numbersAt line at)
+
+abbrev μ-loop : tie.MeasureT-loop
+μ-loop line at prefix g i₀ i = length line - i
+
+loop-holds : tie.Need-loop-holds Inv-loop μ-loop
+loop-holds c = refl
+
+item-at-requires : tie.Need-item-at-requires Inv-loop μ-loop
+item-at-requires c κs = search needs
+
+enum-known-v : tie.Need-enum-known-v Inv-loop μ-loop
+enum-known-v c = search needs
+
+enum-told : tie.Need-enum-told Inv-loop μ-loop
+enum-told c = search needs
+
+returns : tie.Need-returns Inv-loop μ-loop
+returns c = all-end (under (entry (c .before .before .before .before .before .args .prefix .now)) (c .before .before .before .before .before .args .g)) _ _ (c .before .before .before .loop .i) (c .before .before .before .loop .inv) (item-told _ (c .before .before .before .loop .i) (c .enum-told .given .1) (c .before .before .item-at .ensures))
+
+under-requires : tie.Need-under-requires Inv-loop μ-loop
+under-requires c κs = search needs
+
+loop-less : tie.Need-loop-less Inv-loop μ-loop
+loop-less c = let o = item-told _ (c .before .before .before .before .before .before .loop .i) (c .before .before .before .v .given .1) (c .before .before .before .before .before .item-at .ensures) in omega arith
+
+loop-again : tie.Need-loop-again Inv-loop μ-loop
+loop-again c = all-more (under (entry (c .before .before .before .before .before .before .before .before .args .prefix .now)) (c .before .before .before .before .before .before .before .before .args .g)) _ _ (c .before .before .before .before .before .before .loop .i) (c .before .before .before .before .before .before .loop .inv) (item-told _ (c .before .before .before .before .before .before .loop .i) (c .before .before .before .v .given .1) (c .before .before .before .before .before .item-at .ensures)) (sym (c .before .under .ensures) ∙ c .if1 .taken)
+
+returns-2 : tie.Need-returns-2 Inv-loop μ-loop
+returns-2 c = all-fails (under (entry (c .before .before .before .before .before .before .before .before .args .prefix .now)) (c .before .before .before .before .before .before .before .before .args .g)) _ _ (c .before .before .before .before .before .before .loop .i) (c .before .before .before .before .before .before .loop .inv) (item-told _ (c .before .before .before .before .before .before .loop .i) (c .before .before .before .v .given .1) (c .before .before .before .before .before .item-at .ensures)) (sym (c .before .under .ensures) ∙ c .if1 .left)
+
+pub all-under-spec : {M : Type 1} → statement M
+all-under-spec =
+    tie.close
+    (tie.spec
+    Inv-loop
+    μ-loop
+    loop-holds
+    item-at-requires
+    enum-known-v
+    enum-told
+    returns
+    under-requires
+    loop-less
+    loop-again
+    returns-2)

@@ -1,0 +1,74 @@
+use borrow.Author.Needs.{needs}
+use mathlib.Core.Path.{sym, _∙_}
+use Rattle.formula.proofs.BindingLaws.{binding-bad, binding-signed, binding-empty, binding-late, binding-high, binding-twice, binding-done}
+use Rattle.formula.proofs.binding_line.Statement.{statement}
+use Rattle.formula.proofs.binding_line.Tie as tie
+use Rattle.formula.proofs.binding_line.Reads as reads
+use Rattle.formula.proofs.binding_line.Lts as lts
+use Rattle.formula.proofs.put_binding.Reads as put-binding-reads
+use Rattle.lists.proofs.clause_at.Reads as clause-at-reads
+
+clause-at-requires : tie.Need-clause-at-requires
+clause-at-requires c κs = search needs
+
+enum-known-s : tie.Need-enum-known-s
+enum-known-s c = search needs
+
+enum-told : tie.Need-enum-told
+enum-told c = search needs
+
+returns : tie.Need-returns
+returns c = λ m. binding-bad _ _ _ _ _ m (sym (c .before .before .clause-at .ensures) ∙ c .enum-told .given .1)
+
+returns-2 : tie.Need-returns-2
+returns-2 c = λ m. binding-signed _ _ _ _ _ m (sym (c .before .before .before .before .clause-at .ensures) ∙ c .before .before .s .given .1) (c .if1 .taken)
+
+returns-3 : tie.Need-returns-3
+returns-3 c = λ m. binding-empty _ _ _ _ _ m (sym (c .before .before .before .before .before .clause-at .ensures) ∙ c .before .before .before .s .given .1) (c .before .if1 .left) (c .if2 .taken)
+
+returns-4 : tie.Need-returns-4
+returns-4 c = λ m. binding-late _ _ _ _ _ m (sym (c .before .before .before .before .before .before .before .clause-at .ensures) ∙ c .before .before .before .before .before .s .given .1) (c .before .before .before .if1 .left) (c .before .before .if2 .left) (c .if3 .taken)
+
+returns-5 : tie.Need-returns-5
+returns-5 c = λ m. binding-high _ _ _ _ _ m (sym (c .before .before .before .before .before .before .before .before .clause-at .ensures) ∙ c .before .before .before .before .before .before .s .given .1) (c .before .before .before .before .if1 .left) (c .before .before .before .if2 .left) (c .before .if3 .left) (c .if4 .taken)
+
+put-binding-requires : tie.Need-put-binding-requires
+put-binding-requires c κs = search needs
+
+enum-known-k : tie.Need-enum-known-k
+enum-known-k c = search needs
+
+enum-told-2 : tie.Need-enum-told-2
+enum-told-2 c = search needs
+
+same-length : tie.Need-same-length
+same-length c = search needs
+
+returns-6 : tie.Need-returns-6
+returns-6 c = λ m. binding-twice _ _ _ _ _ m (sym (c .before .before .before .before .before .before .before .before .before .before .before .before .before .clause-at .ensures) ∙ c .before .before .before .before .before .before .before .before .before .before .before .s .given .1) (c .before .before .before .before .before .before .before .before .before .if1 .left) (c .before .before .before .before .before .before .before .before .if2 .left) (c .before .before .before .before .before .before .if3 .left) (c .before .before .before .before .before .if4 .left) (c .before .before .before .before .before .before .before .before .before .before .before .before .before .before .before .pre .1) (c .before .before .before .before .before .before .before .before .before .before .before .before .before .before .before .pre .2) (c .before .before .before .put-binding .ensures) (c .enum-told2 .given .1)
+
+same-length-2 : tie.Need-same-length-2
+same-length-2 c = search needs
+
+returns-7 : tie.Need-returns-7
+returns-7 c = λ m. binding-done _ _ _ _ _ m (sym (c .before .before .before .before .before .before .before .before .before .before .before .before .before .before .clause-at .ensures) ∙ c .before .before .before .before .before .before .before .before .before .before .before .before .s .given .1) (c .before .before .before .before .before .before .before .before .before .before .if1 .left) (c .before .before .before .before .before .before .before .before .before .if2 .left) (c .before .before .before .before .before .before .before .if3 .left) (c .before .before .before .before .before .before .if4 .left) (c .before .before .before .before .before .before .before .before .before .before .before .before .before .before .before .before .pre .1) (c .before .before .before .before .before .before .before .before .before .before .before .before .before .before .before .before .pre .2) (c .before .before .before .before .put-binding .ensures) (c .before .k .given .1)
+
+pub binding-line-spec : {M : Type 1} → statement M
+binding-line-spec =
+    tie.close
+    (tie.spec
+    clause-at-requires
+    enum-known-s
+    enum-told
+    returns
+    returns-2
+    returns-3
+    returns-4
+    returns-5
+    put-binding-requires
+    enum-known-k
+    enum-told-2
+    same-length
+    returns-6
+    same-length-2
+    returns-7)

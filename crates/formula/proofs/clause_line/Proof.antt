@@ -1,0 +1,88 @@
+use borrow.Author.Needs.{needs}
+use mathlib.Core.Path.{sym, _∙_}
+use borrow.Author.Tests.{not-true, not-false}
+use Rattle.formula.proofs.ClauseLaws.{clause-bad, clause-high, clause-full, clause-unbound, clause-many, clause-done}
+use Rattle.formula.proofs.clause_line.Statement.{statement}
+use Rattle.formula.proofs.clause_line.Tie as tie
+use Rattle.formula.proofs.clause_line.Reads as reads
+use Rattle.formula.proofs.clause_line.Lts as lts
+use Rattle.formula.proofs.all_bound.Reads as all-bound-reads
+use Rattle.lists.proofs.clause_at.Reads as clause-at-reads
+use Rattle.lists.proofs.store_list.Reads as store-list-reads
+
+clause-at-requires : tie.Need-clause-at-requires
+clause-at-requires c κs = search needs
+
+enum-known-n : tie.Need-enum-known-n
+enum-known-n c = search needs
+
+enum-told : tie.Need-enum-told
+enum-told c = search needs
+
+returns : tie.Need-returns
+returns c = clause-bad _ _ _ _ (sym (c .before .before .clause-at .ensures) ∙ c .enum-told .given .1)
+
+sub-room : tie.Need-sub-room
+sub-room c = search needs
+
+returns-2 : tie.Need-returns-2
+returns-2 c = clause-high _ _ _ _ (sym (c .before .before .before .before .clause-at .ensures) ∙ c .before .before .n .given .1) (c .if1 .taken)
+
+returns-3 : tie.Need-returns-3
+returns-3 c = clause-full _ _ _ _ (sym (c .before .before .before .before .before .clause-at .ensures) ∙ c .before .before .before .n .given .1) (c .before .if1 .left) (c .before .before .before .before .before .before .before .pre) (c .if2 .taken)
+
+store-list-requires : tie.Need-store-list-requires
+store-list-requires c κs = search needs
+
+all-bound-requires : tie.Need-all-bound-requires
+all-bound-requires c κs = search needs
+
+same-length : tie.Need-same-length
+same-length c = search needs
+
+returns-4 : tie.Need-returns-4
+returns-4 c = clause-unbound _ _ _ _ (sym (c .before .before .before .before .before .before .before .before .before .before .before .clause-at .ensures) ∙ c .before .before .before .before .before .before .before .before .before .n .given .1) (c .before .before .before .before .before .before .before .if1 .left) (c .before .before .before .before .before .before .before .before .before .before .before .before .before .pre) (c .before .before .before .before .before .before .if2 .left) (c .before .before .before .before .store-list .ensures) (c .before .all-bound .ensures) (not-true _ (c .if3 .taken))
+
+same-length-2 : tie.Need-same-length-2
+same-length-2 c = search needs
+
+returns-5 : tie.Need-returns-5
+returns-5 c = clause-many _ _ _ _ (sym (c .before .before .before .before .before .before .before .before .before .before .before .before .before .clause-at .ensures) ∙ c .before .before .before .before .before .before .before .before .before .before .before .n .given .1) (c .before .before .before .before .before .before .before .before .before .if1 .left) (c .before .before .before .before .before .before .before .before .before .before .before .before .before .before .before .pre) (c .before .before .before .before .before .before .before .before .if2 .left) (c .before .before .before .before .before .before .store-list .ensures) (c .before .before .before .all-bound .ensures) (not-false _ (c .before .before .if3 .left)) (c .if4 .taken)
+
+add-clauses : tie.Need-add-clauses
+add-clauses c = search needs
+
+add-places : tie.Need-add-places
+add-places c = search needs
+
+add-places-2 : tie.Need-add-places-2
+add-places-2 c = search needs
+
+same-length-3 : tie.Need-same-length-3
+same-length-3 c = search needs
+
+returns-6 : tie.Need-returns-6
+returns-6 c = clause-done _ _ _ _ (sym (c .before .before .before .before .before .before .before .before .before .before .before .before .before .before .clause-at .ensures) ∙ c .before .before .before .before .before .before .before .before .before .before .before .before .n .given .1) (c .before .before .before .before .before .before .before .before .before .before .if1 .left) (c .before .before .before .before .before .before .before .before .before .before .before .before .before .before .before .before .pre) (c .before .before .before .before .before .before .before .before .before .if2 .left) (c .before .before .before .before .before .before .before .store-list .ensures) (c .before .before .before .before .all-bound .ensures) (not-false _ (c .before .before .before .if3 .left)) (c .before .if4 .left)
+
+pub clause-line-spec : {M : Type 1} → statement M
+clause-line-spec =
+    tie.close
+    (tie.spec
+    clause-at-requires
+    enum-known-n
+    enum-told
+    returns
+    sub-room
+    returns-2
+    returns-3
+    store-list-requires
+    all-bound-requires
+    same-length
+    returns-4
+    same-length-2
+    returns-5
+    add-clauses
+    add-places
+    add-places-2
+    same-length-3
+    returns-6)

@@ -1,0 +1,30 @@
+use borrow.Author.Needs.{needs}
+use mathlib.Core.Path.{sym, _∙_}
+use Rattle.formula.proofs.LineKinds.{natural-none, natural-even, natural-odd}
+use Rattle.formula.proofs.natural_at.Statement.{statement}
+use Rattle.formula.proofs.natural_at.Tie as tie
+use Rattle.formula.proofs.natural_at.Reads as reads
+use Rattle.formula.proofs.natural_at.Lts as lts
+use Rattle.lines.proofs.literal_at.Reads as literal-at-reads
+
+literal-at-requires : tie.Need-literal-at-requires
+literal-at-requires c κs = search needs
+
+enum-known-x : tie.Need-enum-known-x
+enum-known-x c = search needs
+
+enum-told : tie.Need-enum-told
+enum-told c = search needs
+
+returns : tie.Need-returns
+returns c = natural-none _ _ (sym (c .before .before .literal-at .ensures) ∙ c .enum-told .given .1)
+
+returns-2 : tie.Need-returns-2
+returns-2 c = natural-even _ _ (sym (c .before .before .before .before .literal-at .ensures) ∙ c .before .before .x .given .1) (c .if1 .taken)
+
+returns-3 : tie.Need-returns-3
+returns-3 c = natural-odd _ _ (sym (c .before .before .before .before .literal-at .ensures) ∙ c .before .before .x .given .1) (c .if1 .left)
+
+pub natural-at-spec : {M : Type 1} → statement M
+natural-at-spec =
+    tie.close (tie.spec literal-at-requires enum-known-x enum-told returns returns-2 returns-3)

@@ -1,0 +1,36 @@
+-- What is asked of the prefix table, and what a prefix line stores there. Assumes nothing.
+use mathlib.Core.Path.{_≡_}
+use mathlib.Core.Bool.{Bool, not, cond}
+use mathlib.Core.List.{List, [], _∷_}
+use Prim.Native.Nat.{ℕ, _+_, _*_, _-_, _/_, _≤_}
+use lib.Dec.{eqb}
+use lib.ListN.{set}
+use lib.IntN.{ℤ, pos}
+use Rattle.prefix.specs.Prefix.{entry}
+use Rattle.formula.specs.declared.Marked.{Marked}
+
+-- the variable of a code is bound
+unfoldable pub isBound : List ℤ → ℕ → Bool
+isBound p x = not (eqb (entry p (x / 2)) 0)
+
+-- THE SECOND PASS OVER A PREFIX LINE, by the codes of its variables and its zero: its answer, and the table that it leaves.
+-- It stops where a variable is bound already; q is the quantifier's number and k the next position.
+pub record Pass : Type 0 where
+  pub answer : Marked
+  pub table : List ℤ
+
+unfoldable pub pass : ℕ → ℕ → List ℕ → List ℤ → Pass
+pass q k [] p = record { answer = Marked.Twice; table = p }
+pass q k (x ∷ xs) p =
+    cond (eqb x 0) (record { answer = Marked.Done k; table = p })
+    (cond (isBound p x) (record { answer = Marked.Twice; table = p }) (pass q (k + 1) xs (set p (x / 2 - 1) (pos (2 * k + q)))))
+
+abbrev pub Few : ℕ → Marked → Type 0
+Few n Marked.Twice = Unit {0}
+Few n (Marked.Done j) = j ≤ n
+
+-- what the pass over a line of n bytes answers and leaves
+pub record Marks (q k n : ℕ) (xs : List ℕ) (p : List ℤ) (r : Marked) (u : List ℤ) : Type 0 where
+  pub answer : r ≡ pass q k xs p .answer
+  pub table : u ≡ pass q k xs p .table
+  pub few : Few (k + n) r

@@ -1,0 +1,3 @@
+-- Laws of the prefix table.
+pub mod Marks
+pub mod Laws

@@ -1,0 +1,2 @@
+-- What the prefix table says.
+pub mod Prefix

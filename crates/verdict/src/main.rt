@@ -1,0 +1,101 @@
+// The program: reads the two files of the working folder, checks them and prints the report.
+ghost use mathlib.Core.Path.{_≡_};
+ghost use Prim.Native.Nat.{_≤_};
+ghost use lib.ListN.{length};
+ghost use Rattle.ferat.specs.Tables.{tables};
+ghost use Rattle.ferat.specs.Check.{refusedEarly};
+ghost use Rattle.verdict.specs.Program.{ReportedIn};
+use libc::STDOUT_FILENO;
+use rules::Report;
+use rules::Verdict;
+
+// Reads a file from its start and answers how many bytes; one that does not open, or cannot be read, is empty.
+fn load(path: &[u8], bytes: &mut [u8]) -> usize
+    ensures { λ n. ⌜ n ≤ length (now (bytes .exit)) ⌝ }
+{
+    let fd = os::open_read(path);
+    if fd < 0 {
+        return 0;
+    }
+    let n = io::read_full(fd, bytes);
+    libc::close(fd);
+    n
+}
+
+// Refusal 1 of a file.
+fn refuse_overlong(file: u32) -> Report
+    ensures { λ r. ⌜ r ≡ refusedEarly 1 file 0 ⌝ }
+{
+    Report {
+        verdict: Verdict::Refused {
+            number: 1,
+            file,
+            line: 0,
+        },
+        expansions: 0,
+        additions: 0,
+        deletions: 0,
+    }
+}
+
+// The report of two files under the program's limits.
+fn report_of(
+    formula: &[u8],
+    certificate: &[u8],
+    prefix: &mut [i32],
+    matrix: &mut [i32],
+    map: &mut [i32],
+    proof: &mut [i32],
+    marks: &mut [i32],
+    values: &mut [i32],
+) -> Report
+    ensures { λ r. ⌜ ReportedIn (now (formula .entry)) (now (certificate .entry)) (tables (now (prefix .entry)) (now (matrix .entry)) (now (map .entry)) (now (proof .entry)) (now (marks .entry)) (now (values .entry))) r (tables (now (prefix .exit)) (now (matrix .exit)) (now (map .exit)) (now (proof .exit)) (now (marks .exit)) (now (values .exit))) ⌝ }
+{
+    if 16384 < formula.len() {
+        return refuse_overlong(1);
+    }
+    if 65536 < certificate.len() {
+        return refuse_overlong(2);
+    }
+    ferat::check(
+        formula,
+        certificate,
+        prefix,
+        matrix,
+        map,
+        proof,
+        marks,
+        values,
+    )
+}
+
+// Prints a report.
+fn print(r: Report) {
+    let mut line = [0; 96];
+    let n = report::render_report(r, &mut line);
+    io::write_all(STDOUT_FILENO, &line[0..n]);
+}
+
+// Each file has room for one byte more than the program holds, which tells a longer one.
+fn main() {
+    let mut formula = [0; 16385];
+    let mut certificate = [0; 65537];
+    let mut prefix = [0; 16384];
+    let mut matrix = [0; 16384];
+    let mut map = [0; 16384];
+    let mut proof = [0; 16384];
+    let mut marks = [0; 16384];
+    let mut values = [0; 16384];
+    let f = load(b"formula.qdimacs", &mut formula);
+    let c = load(b"proof.ferat", &mut certificate);
+    print(report_of(
+        &formula[0..f],
+        &certificate[0..c],
+        &mut prefix,
+        &mut matrix,
+        &mut map,
+        &mut proof,
+        &mut marks,
+        &mut values,
+    ));
+}
