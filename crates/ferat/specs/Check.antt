@@ -17,19 +17,6 @@ use Rattle.ferat.specs.declared.progress.Ended.{Ended}
 use Rattle.ferat.specs.declared.progress.Ended.the-variants as end-of
 use Rattle.ferat.specs.Tables.{Tables, tables, lengthsOf, KeptAll}
 
--- the tables show some formula, with as many clauses as it says
-abbrev pub Ready : Reading → List ℤ → List ℤ → Type 0
-Ready r prefix matrix = (f : Formula) × Holds r prefix matrix f × (length (f .matrix) ≡ r .c)
-
--- the report of a certificate that is read, and of a refusal before any of its lines
-abbrev pub reportOf : Ended → Report
-reportOf (end-of.Closed p) = record { verdict = Accepted; expansions = p .expansions; additions = p .additions; deletions = p .deletions }
-reportOf (end-of.Refused k line p) =
-    record { verdict = Refused k 2 line; expansions = p .expansions; additions = p .additions; deletions = p .deletions }
-
-abbrev pub refusedEarly : ℕ → ℕ → ℕ → Report
-refusedEarly number file line = record { verdict = Refused number file line; expansions = 0; additions = 0; deletions = 0 }
-
 -- THE PROMISE OF A CHECK of two files, t being the tables before and u after: "Its promise is an equation with the rules above, a function of
 -- both files and the table lengths .. places beyond the need, up to the line where the check ended, hold what they held."
 pub record CheckedIn (formula certificate : List ℕ) (t : Tables) (r : Report) (u : Tables) : Type 0 where
@@ -64,3 +51,16 @@ pub record Demanded (t : Tables) (j : Job) (r : Report) : Type 0 where
 pub data Each (P : Job → Report → Type 0) : List Job → List Report → Type 0 where
   end : Each P [] []
   and : {j : Job} {js : List Job} {r : Report} {rs : List Report} → P j r → Each P js rs → Each P (j ∷ js) (r ∷ rs)
+
+-- WITHIN THE CRATE: the tables show some formula, with as many clauses as it says
+abbrev pub Ready : Reading → List ℤ → List ℤ → Type 0
+Ready r prefix matrix = (f : Formula) × Holds r prefix matrix f × (length (f .matrix) ≡ r .c)
+
+-- the report of a certificate that is read, and of a refusal before any of its lines
+abbrev pub reportOf : Ended → Report
+reportOf (end-of.Closed p) = record { verdict = Accepted; expansions = p .expansions; additions = p .additions; deletions = p .deletions }
+reportOf (end-of.Refused k line p) =
+    record { verdict = Refused k 2 line; expansions = p .expansions; additions = p .additions; deletions = p .deletions }
+
+abbrev pub refusedEarly : ℕ → ℕ → ℕ → Report
+refusedEarly number file line = record { verdict = Refused number file line; expansions = 0; additions = 0; deletions = 0 }
