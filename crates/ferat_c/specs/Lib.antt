@@ -1,2 +1,3 @@
 -- What the calls of this crate say.
 pub mod Numbers
+pub mod Ends

@@ -14,7 +14,7 @@ use Rattle.lines.specs.Bytes.{isLineEnd}
 use Rattle.lines.specs.Lines.{longer, linesOf, lineAt}
 use Rattle.lines.specs.declared.Run.the-variants.{Line}
 use Rattle.lines.specs.Scan.{passes, run}
-use Rattle.lines.specs.Parts.{afterEnds, lineStart, fileOf, LinePart}
+use Rattle.lines.specs.Parts.{afterEnds, lineStart, fileOf}
 use Rattle.lines.proofs.Here.{here, past}
 use Rattle.lines.proofs.Runs.{lines-run, line-within}
 
@@ -187,13 +187,13 @@ module _ (bs : List ℕ) (line at left : ℕ) (g : Left bs line at left) where
     unfolding next
     left-next k = record { within = omega arith; same = one-end ∙ ap (λ l. e + next (left - 1) l) (here bs e k) ∙ omega arith }
 
--- THE FILE: 1 means the formula, any other number the certificate
-module _ (file line : ℕ) (formula certificate r : RefT (List ℕ)) where
-  abbrev Whole : Bool → Type 0
-  Whole t = LinePart (cond t formula certificate) line r
+-- THE FILE: 1 means the formula, any other number the certificate; what is known of the file that is meant
+module _ (P : RefT (List ℕ) → Type 0) (file : ℕ) (formula certificate : RefT (List ℕ)) where
+  abbrev Of : Bool → Type 0
+  Of t = P (cond t formula certificate)
 
-  pub in-formula : file ≡ 1 → LinePart formula line r → LinePart (fileOf file formula certificate) line r
-  in-formula e h = subst Whole (sym (eq-eqb file 1 e)) h
+  pub in-formula : file ≡ 1 → P formula → P (fileOf file formula certificate)
+  in-formula e h = subst Of (sym (eq-eqb file 1 e)) h
 
-  pub in-certificate : (file ≡ 1 → ⊥) → LinePart certificate line r → LinePart (fileOf file formula certificate) line r
-  in-certificate e h = subst Whole (sym (ne-eqb file 1 e)) h
+  pub in-certificate : (file ≡ 1 → ⊥) → P certificate → P (fileOf file formula certificate)
+  in-certificate e h = subst Of (sym (ne-eqb file 1 e)) h

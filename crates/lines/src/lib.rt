@@ -244,7 +244,7 @@ pub fn line_head(line: &[u8]) -> Head
 }
 
 // Where the line with this number starts; the end where there is no such line.
-fn line_start(s: &[u8], line: usize) -> usize
+pub fn line_start(s: &[u8], line: usize) -> usize
     ensures { λ r. ⌜ r ≡ lineStart line (now (s .entry)) ⌝ }
 {
     if line == 0 {

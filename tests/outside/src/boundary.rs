@@ -1,6 +1,6 @@
 //! The boundary to the checker under test. Implement [`Checker`] for it (for
-//! instance over the C interface of a static library), then hand it to
-//! [`compare_fixed`], [`compare_corpus`] and [`compare_data`].
+//! instance over the C interface of a static library), then hand it to a
+//! [`Comparison`].
 
 use crate::corpus::{self, Case, Rng};
 use crate::fixed;
@@ -14,10 +14,28 @@ pub trait Checker {
     /// file, line, expansions, additions, deletions.
     fn check(&mut self, formula: &[u8], certificate: &[u8], tables: [&mut [i32]; 6]) -> [u64; 7];
 
+    /// The list of checks: files one after the other, two ends for each
+    /// check, seven numbers for each into `out` as far as it goes. An end
+    /// below the one before it counts as that one, an end above the bytes'
+    /// length as that length; an odd last end is left alone.
+    fn check_all(&mut self, bytes: &[u8], ends: &[usize], tables: [&mut [i32]; 6], out: &mut [u32]);
+
     /// The call for a line's bytes: which file the part is of (1 formula, 2
-    /// certificate), its start and its end there; none where the checker under
-    /// test has no such call.
-    fn line(&mut self, formula: &[u8], certificate: &[u8], file: i64, line: i64) -> Option<(u8, usize, usize)>;
+    /// certificate), its start and its end there.
+    fn line(&mut self, formula: &[u8], certificate: &[u8], file: i64, line: i64) -> (u8, usize, usize);
+}
+
+/// The files of a list of checks, by the words at `Checker::check_all`.
+pub fn pairs_in<'a>(bytes: &'a [u8], ends: &[usize]) -> Vec<[&'a [u8]; 2]> {
+    let mut pairs = Vec::new();
+    let mut from = 0;
+    for two in ends.chunks_exact(2) {
+        let middle = two[0].max(from).min(bytes.len());
+        let to = two[1].max(middle).min(bytes.len());
+        pairs.push([&bytes[from..middle], &bytes[middle..to]]);
+        from = to;
+    }
+    pairs
 }
 
 /// The reference behind the boundary. It writes rubbish to every place it
@@ -38,147 +56,312 @@ impl Checker for Reference {
         report.verdict.fields()
     }
 
-    fn line(&mut self, formula: &[u8], certificate: &[u8], file: i64, line: i64) -> Option<(u8, usize, usize)> {
-        Some(reference::line_bytes(formula, certificate, file, line))
-    }
-}
-
-/// Six tables that are handed on from check to check, never cleaned.
-pub struct Tables {
-    stores: [Vec<i32>; 6],
-    rng: Rng,
-}
-
-impl Tables {
-    pub fn new(seed: u64) -> Tables {
-        Tables { stores: Default::default(), rng: Rng::new(seed) }
-    }
-
-    /// Tables of these lengths: what the last check left, and, at times,
-    /// fresh rubbish.
-    fn lend(&mut self, lengths: [usize; 6]) {
-        let afresh = self.rng.chance(1, 4);
-        for (store, length) in self.stores.iter_mut().zip(lengths) {
-            let kept = if afresh { 0 } else { store.len().min(length) };
-            store.truncate(kept);
-            while store.len() < length {
-                let value = match self.rng.below(6) {
-                    0 => 0,
-                    1 => i32::MIN,
-                    2 => i32::MAX,
-                    3 => self.rng.below(40) as i32 - 20,
-                    _ => self.rng.next() as i32,
-                };
-                store.push(value);
+    fn check_all(&mut self, bytes: &[u8], ends: &[usize], mut tables: [&mut [i32]; 6], out: &mut [u32]) {
+        for (index, [formula, certificate]) in pairs_in(bytes, ends).into_iter().enumerate() {
+            let lent = tables.each_mut().map(|table| &mut **table);
+            let fields = self.check(formula, certificate, lent);
+            for (place, field) in out.iter_mut().skip(7 * index).zip(fields) {
+                *place = field as u32;
             }
         }
     }
+
+    fn line(&mut self, formula: &[u8], certificate: &[u8], file: i64, line: i64) -> (u8, usize, usize) {
+        reference::line_bytes(formula, certificate, file, line)
+    }
 }
 
-/// One check compared. Lengths are cut to a size that can be lent.
-pub fn compare_one(
-    checker: &mut dyn Checker,
-    name: &str,
-    formula: &[u8],
-    certificate: &[u8],
-    lengths: [usize; 6],
-    tables: &mut Tables,
-) -> Result<Report, String> {
-    let lengths = lengths.map(|length| length.min(1 << 20));
-    let report = reference::check(formula, certificate, lengths);
-    let expected = report.verdict.fields();
-    tables.lend(lengths);
-    let before = tables.stores.clone();
-    let [t0, t1, t2, t3, t4, t5] = &mut tables.stores;
-    let found = checker.check(formula, certificate, [t0, t1, t2, t3, t4, t5]);
-    if found != expected {
-        return Err(format!("{name}: verdict {found:?}, expected {expected:?}, lengths {lengths:?}"));
-    }
+type Stores = [Vec<i32>; 6];
+
+fn lend(stores: &mut Stores) -> [&mut [i32]; 6] {
+    stores.each_mut().map(|store| store.as_mut_slice())
+}
+
+fn zeros(lengths: [usize; 6]) -> Stores {
+    lengths.map(|length| vec![0; length])
+}
+
+/// The places beyond the needs that no longer hold what they held.
+fn altered(name: &str, needs: [usize; 6], before: &Stores, after: &Stores) -> Result<(), String> {
     for table in 0..6 {
-        for place in report.needs[table].min(lengths[table])..lengths[table] {
-            if tables.stores[table][place] != before[table][place] {
-                return Err(format!("{name}: table {table} altered at {place}, need {}", report.needs[table]));
+        let kept = needs[table].min(before[table].len());
+        if before[table][kept..] != after[table][kept..] {
+            return Err(format!("{name}: table {table} altered beyond its need {}", needs[table]));
+        }
+    }
+    Ok(())
+}
+
+/// What has been compared.
+#[derive(Default)]
+pub struct Tally {
+    pub pairs: u64,
+    pub checks: u64,
+    /// How often each number was the verdict on a pair, in its own lengths.
+    pub numbers: [u64; 16],
+    /// Accepted pairs whose formula's recursive reading was evaluated.
+    pub read_false: u64,
+    pub lines: u64,
+    pub lists: u64,
+}
+
+/// The tables that are handed on from pair to pair, never cleaned, the pair
+/// that was checked last, and the counts.
+pub struct Comparison {
+    stores: Stores,
+    last: [Vec<u8>; 2],
+    rng: Rng,
+    pub tally: Tally,
+}
+
+impl Comparison {
+    pub fn new(seed: u64) -> Comparison {
+        let last = [fixed::A, fixed::A_PROOF].map(|text| text.replace('/', "\n").into_bytes());
+        Comparison { stores: Default::default(), last, rng: Rng::new(seed), tally: Tally::default() }
+    }
+
+    fn rubbish(&mut self) -> i32 {
+        match self.rng.below(6) {
+            0 => 0,
+            1 => i32::MIN,
+            2 => i32::MAX,
+            3 => self.rng.below(40) as i32 - 20,
+            _ => self.rng.next() as i32,
+        }
+    }
+
+    /// What earlier checks left, cut to these lengths or grown by rubbish.
+    fn handed_on(&mut self, lengths: [usize; 6]) -> Stores {
+        let mut stores = std::mem::take(&mut self.stores);
+        for (store, length) in stores.iter_mut().zip(lengths) {
+            store.truncate(length);
+            while store.len() < length {
+                store.push(self.rubbish());
             }
         }
+        stores
     }
-    let mut asked = vec![(report.verdict.file as i64, report.verdict.line as i64)];
-    for _ in 0..3 {
-        asked.push((tables.rng.below(5) as i64 - 1, tables.rng.below(14) as i64 - 2));
+
+    /// Lengths near the needs, so that at times a table is full.
+    fn random_lengths(&mut self, needs: [usize; 6]) -> [usize; 6] {
+        let near = self.rng.chance(2, 3);
+        needs.map(|need| match self.rng.below(12) {
+            0 if near => need.saturating_sub(1),
+            0 => self.rng.below(need + 2),
+            1..=4 => need,
+            5 => need + 1,
+            _ => need + self.rng.below(60),
+        })
     }
-    for file in 1..3 {
-        let bytes = if file == 1 { formula } else { certificate };
-        let count = bytes.iter().filter(|byte| **byte == 10).count() as i64;
-        asked.extend([(file, count), (file, count + 1), (file, count + 2)]);
-    }
-    for (file, line) in asked {
-        let expected = reference::line_bytes(formula, certificate, file, line);
-        let Some(found) = checker.line(formula, certificate, file, line) else {
-            break;
-        };
+
+    /// One check in these tables, all fields and all places compared.
+    fn compare_in(
+        &mut self,
+        checker: &mut dyn Checker,
+        name: &str,
+        files: [&[u8]; 2],
+        report: &Report,
+        stores: &mut Stores,
+    ) -> Result<(), String> {
+        let before = stores.clone();
+        let found = checker.check(files[0], files[1], lend(stores));
+        let expected = report.verdict.fields();
         if found != expected {
-            return Err(format!("{name}: file {file} line {line} is {found:?}, expected {expected:?}"));
+            let lengths = before.map(|store| store.len());
+            return Err(format!("{name}: verdict {found:?}, expected {expected:?}, lengths {lengths:?}"));
         }
+        self.tally.checks += 1;
+        altered(name, report.needs, &before, stores)
     }
-    Ok(report)
-}
 
-/// The fixed cases: the twelve checks and the edges.
-pub fn compare_fixed(checker: &mut dyn Checker, tables: &mut Tables) -> Result<usize, String> {
-    let cases = fixed::cases();
-    for case in &cases {
-        let report = compare_one(checker, &case.name, &case.formula, &case.certificate, case.lengths, tables)?;
-        if report.verdict.text() != case.expected {
-            return Err(format!("{}: {}, expected {}", case.name, report.verdict.text(), case.expected));
+    /// One pair, three ways: in tables of zeros, straight after another
+    /// certificate in the same tables, and in tables of random contents and
+    /// lengths. Lines' bytes are compared as well, and the formula of an
+    /// accepted pair is read recursively if it is small.
+    pub fn pair(
+        &mut self,
+        checker: &mut dyn Checker,
+        name: &str,
+        files: [&[u8]; 2],
+        lengths: [usize; 6],
+    ) -> Result<Report, String> {
+        let [formula, certificate] = files;
+        let lengths = lengths.map(|length| length.min(1 << 20));
+        let report = reference::check(formula, certificate, lengths);
+        self.compare_in(checker, &format!("{name}, in zeros"), files, &report, &mut zeros(lengths))?;
+
+        let mut stores = self.handed_on(lengths);
+        checker.check(&self.last[0], &self.last[1], lend(&mut stores));
+        self.compare_in(checker, &format!("{name}, after another"), files, &report, &mut stores)?;
+        self.stores = stores;
+        self.last = [formula.to_vec(), certificate.to_vec()];
+
+        let others = self.random_lengths(report.needs);
+        let other = reference::check(formula, certificate, others);
+        let mut stores = others.map(|length| (0..length).map(|_| self.rubbish()).collect());
+        self.compare_in(checker, &format!("{name}, in rubbish"), files, &other, &mut stores)?;
+
+        self.lines(checker, name, files, &report)?;
+        if report.verdict.number == 0 {
+            match reference::is_false(formula) {
+                Some(false) => return Err(format!("{name}: accepted, and its formula is true")),
+                Some(true) => self.tally.read_false += 1,
+                None => {}
+            }
         }
+        self.tally.pairs += 1;
+        self.tally.numbers[report.verdict.number as usize] += 1;
+        Ok(report)
     }
-    Ok(cases.len())
-}
 
-/// Cases `from..to` of the corpus of this seed; answers how often each
-/// number occurred.
-pub fn compare_corpus(
-    checker: &mut dyn Checker,
-    seed: u64,
-    from: u64,
-    to: u64,
-    tables: &mut Tables,
-) -> Result<[u64; 16], String> {
-    let mut spread = [0; 16];
-    for index in from..to {
-        let Case { kind, formula, certificate, lengths } = corpus::case(seed, index);
-        let name = format!("corpus {seed}/{index} ({kind})");
-        let report = compare_one(checker, &name, &formula, &certificate, lengths, tables)?;
-        spread[report.verdict.number as usize] += 1;
+    fn lines(&mut self, checker: &mut dyn Checker, name: &str, files: [&[u8]; 2], report: &Report) -> Result<(), String> {
+        let mut asked = vec![(report.verdict.file as i64, report.verdict.line as i64)];
+        for _ in 0..3 {
+            asked.push((self.rng.below(5) as i64 - 1, self.rng.below(14) as i64 - 2));
+        }
+        for file in 1..3 {
+            let count = files[file - 1].iter().filter(|byte| **byte == 10).count() as i64;
+            asked.extend([(file as i64, count), (file as i64, count + 1), (file as i64, count + 2)]);
+        }
+        for (file, line) in asked {
+            let expected = reference::line_bytes(files[0], files[1], file, line);
+            let found = checker.line(files[0], files[1], file, line);
+            if found != expected {
+                return Err(format!("{name}: file {file} line {line} is {found:?}, expected {expected:?}"));
+            }
+            self.tally.lines += 1;
+        }
+        Ok(())
     }
-    Ok(spread)
-}
 
-/// The pairs stored under `data`, with the verdicts that the script which
-/// made them wrote down.
-pub fn compare_data(checker: &mut dyn Checker, folder: &Path, tables: &mut Tables) -> Result<usize, String> {
-    let pairs = corpus::data(folder)?;
-    for (name, formula, certificate, expected) in &pairs {
-        let report = compare_one(checker, name, formula, certificate, [1 << 19; 6], tables)?;
-        if report.verdict.text() != *expected {
-            return Err(format!("{}: {}, expected {}", name, report.verdict.text(), expected));
+    /// The fixed cases: the twelve checks and the edges.
+    pub fn fixed(&mut self, checker: &mut dyn Checker) -> Result<usize, String> {
+        let cases = fixed::cases();
+        for case in &cases {
+            let report = self.pair(checker, &case.name, [&case.formula, &case.certificate], case.lengths)?;
+            if report.verdict.text() != case.expected {
+                return Err(format!("{}: {}, expected {}", case.name, report.verdict.text(), case.expected));
+            }
         }
-        // The same with tables that fit, and with one place too few.
-        if certificate.len() > 65_536 {
-            continue;
+        Ok(cases.len())
+    }
+
+    /// Cases `from..to` of the corpus of this seed.
+    pub fn corpus(&mut self, checker: &mut dyn Checker, seed: u64, from: u64, to: u64) -> Result<(), String> {
+        for index in from..to {
+            let Case { kind, formula, certificate, lengths } = corpus::case(seed, index);
+            let name = format!("corpus {seed}/{index} ({kind})");
+            self.pair(checker, &name, [&formula, &certificate], lengths)?;
         }
-        compare_one(checker, name, formula, certificate, report.needs, tables)?;
-        for table in 0..6 {
-            if report.needs[table] > 0 {
-                let mut lengths = report.needs;
-                lengths[table] -= 1;
-                let short = compare_one(checker, name, formula, certificate, lengths, tables)?;
-                if short.verdict.number != 15 {
-                    return Err(format!("{name}: table {table} one short gave {}", short.verdict.text()));
+        Ok(())
+    }
+
+    /// The pairs stored under `data`, with the verdicts that the script which
+    /// made them wrote down.
+    pub fn data(&mut self, checker: &mut dyn Checker, folder: &Path) -> Result<usize, String> {
+        let pairs = corpus::data(folder)?;
+        for (name, formula, certificate, expected) in &pairs {
+            let files = [formula.as_slice(), certificate.as_slice()];
+            let report = self.pair(checker, name, files, [1 << 19; 6])?;
+            if report.verdict.text() != *expected {
+                return Err(format!("{}: {}, expected {}", name, report.verdict.text(), expected));
+            }
+            // The same with tables that fit, and with one place too few.
+            if certificate.len() > 65_536 {
+                continue;
+            }
+            self.compare_in(checker, name, files, &report, &mut zeros(report.needs))?;
+            for table in 0..6 {
+                if report.needs[table] > 0 {
+                    let mut lengths = report.needs;
+                    lengths[table] -= 1;
+                    let short = reference::check(formula, certificate, lengths);
+                    self.compare_in(checker, name, files, &short, &mut zeros(lengths))?;
+                    if short.verdict.number != 15 {
+                        return Err(format!("{name}: table {table} one short gave {}", short.verdict.text()));
+                    }
                 }
             }
         }
+        Ok(pairs.len())
     }
-    Ok(pairs.len())
+
+    /// The stored pairs again, `count` times each with a few bytes, tokens or
+    /// lines damaged.
+    pub fn damaged_data(&mut self, checker: &mut dyn Checker, folder: &Path, seed: u64, count: u64) -> Result<(), String> {
+        let mut rng = Rng::new(seed);
+        for (name, formula, certificate, _) in corpus::data(folder)? {
+            if certificate.len() > 65_536 {
+                continue;
+            }
+            for index in 0..count {
+                let (formula, certificate) = corpus::damaged(&mut rng, &formula, &certificate);
+                let name = format!("{name}, damaged {seed}/{index}");
+                self.pair(checker, &name, [&formula, &certificate], [16_384; 6])?;
+            }
+        }
+        Ok(())
+    }
+
+    /// `count` lists of up to five checks, in tables that hold rubbish, some
+    /// with ends that do not fit or results that do not all have a place.
+    pub fn lists(&mut self, checker: &mut dyn Checker, seed: u64, count: u64) -> Result<(), String> {
+        for index in 0..count {
+            let mut rng = Rng::new(seed.wrapping_mul(1_000_003).wrapping_add(index));
+            let (mut bytes, mut ends) = (Vec::new(), Vec::new());
+            let mut lengths = [400; 6];
+            for _ in 0..rng.below(6) {
+                let case = corpus::case(seed, rng.next() >> 20);
+                for file in [&case.formula, &case.certificate] {
+                    bytes.extend(file);
+                    ends.push(bytes.len());
+                }
+                if rng.chance(1, 3) {
+                    lengths = case.lengths.map(|length| length.min(16_384));
+                }
+            }
+            if rng.chance(1, 5) && !ends.is_empty() {
+                let place = rng.below(ends.len());
+                ends[place] = rng.one(&[0, 3, usize::MAX, bytes.len() / 2, bytes.len() + 1]);
+            }
+            if rng.chance(1, 5) {
+                ends.pop();
+            }
+            let results = (7 * (ends.len() / 2) + rng.below(3) * rng.below(9)).saturating_sub(rng.below(2) * rng.below(9));
+            self.list(checker, &format!("list {seed}/{index}"), &bytes, &ends, lengths, results)?;
+        }
+        Ok(())
+    }
+
+    fn list(
+        &mut self,
+        checker: &mut dyn Checker,
+        name: &str,
+        bytes: &[u8],
+        ends: &[usize],
+        lengths: [usize; 6],
+        results: usize,
+    ) -> Result<(), String> {
+        let mut stores: Stores = lengths.map(|length| (0..length).map(|_| self.rubbish()).collect());
+        let before = stores.clone();
+        let mut out: Vec<u32> = (0..results).map(|_| self.rubbish() as u32).collect();
+        let (mut expected, mut needs) = (out.clone(), [0; 6]);
+        for (index, [formula, certificate]) in pairs_in(bytes, ends).into_iter().enumerate() {
+            let report = reference::check(formula, certificate, lengths);
+            for (place, field) in expected.iter_mut().skip(7 * index).zip(report.verdict.fields()) {
+                *place = field as u32;
+            }
+            for table in 0..6 {
+                needs[table] = needs[table].max(report.needs[table]);
+            }
+        }
+        checker.check_all(bytes, ends, lend(&mut stores), &mut out);
+        if out != expected {
+            return Err(format!("{name}: {out:?}, expected {expected:?}"));
+        }
+        self.tally.lists += 1;
+        altered(name, needs, &before, &stores)
+    }
 }
 
 /// The program `verdict`, run in a folder with these two files. A file that

@@ -1458,6 +1458,35 @@ pub fn case(seed: u64, index: u64) -> Case {
     Case { kind, formula, certificate, lengths }
 }
 
+/// The tokens of a file's lines; comments and empty lines are left out.
+fn tokens(file: &[u8]) -> Vec<Line> {
+    let text = String::from_utf8_lossy(file).into_owned();
+    let lines = text.lines().map(|line| line.split_whitespace().map(str::to_string).collect::<Line>());
+    lines.filter(|line| line.first().is_some_and(|word| !word.starts_with('c'))).collect()
+}
+
+/// A right pair, damaged: tokens, lines or bytes of either file.
+pub fn damaged(rng: &mut Rng, formula: &[u8], certificate: &[u8]) -> (Vec<u8>, Vec<u8>) {
+    let (mut formula_lines, mut certificate_lines) = (tokens(formula), tokens(certificate));
+    let mut bytes = false;
+    match rng.below(10) {
+        0 => damage_tokens(rng, &mut formula_lines),
+        1 => damage_lines(rng, &mut formula_lines),
+        2 | 3 => damage_tokens(rng, &mut certificate_lines),
+        4 | 5 => damage_lines(rng, &mut certificate_lines),
+        6 => bytes = true,
+        _ => {
+            let number = 2 + rng.below(13);
+            aim(rng, number, &mut formula_lines, &mut certificate_lines);
+        }
+    }
+    let (mut formula, mut certificate) = (render(rng, &formula_lines), render(rng, &certificate_lines));
+    if bytes {
+        damage_bytes(rng, if rng.clone().chance(1, 3) { &mut formula } else { &mut certificate });
+    }
+    (formula, certificate)
+}
+
 /// The stored pairs: name, formula, certificate, expected verdict. The file
 /// `EXPECTED` has a name, a blank and a verdict on each line.
 pub fn data(folder: &Path) -> Result<Vec<(String, Vec<u8>, Vec<u8>, String)>, String> {

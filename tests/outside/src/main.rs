@@ -1,4 +1,4 @@
-use outside::boundary::{self, Reference, Tables};
+use outside::boundary::{self, Comparison, Reference};
 use outside::{corpus, reference};
 use std::path::Path;
 
@@ -34,7 +34,7 @@ fn main() {
         }
         Some("data") => {
             let folder = arguments.get(1).cloned().unwrap_or(concat!(env!("CARGO_MANIFEST_DIR"), "/data").to_string());
-            match boundary::compare_data(&mut Reference, Path::new(&folder), &mut Tables::new(1)) {
+            match Comparison::new(1).data(&mut Reference, Path::new(&folder)) {
                 Ok(count) => println!("{count} stored pairs as expected"),
                 Err(error) => {
                     println!("{error}");

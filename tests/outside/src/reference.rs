@@ -765,7 +765,7 @@ pub fn line_bytes(formula: &[u8], certificate: &[u8], file: i64, line: i64) -> (
 /// refused, or has more prefix variables than one would want to try out.
 pub fn is_false(formula: &[u8]) -> Option<bool> {
     let formula = parse_formula(formula)?;
-    if formula.prefix.len() > 22 {
+    if formula.prefix.len() > 16 {
         return None;
     }
     Some(false_under(&formula, &mut Vec::new()))

@@ -1,6 +1,6 @@
 //! The corpus and the reference against each other, and the harness.
 
-use outside::boundary::{self, Checker, Reference, Tables};
+use outside::boundary::{Checker, Comparison, Reference};
 use outside::corpus::{self, Rng};
 use outside::reference::{self, check, is_expansion, Outcome, Pair, Standing, Word, ENDLESS};
 use std::collections::BTreeSet;
@@ -212,55 +212,75 @@ fn expansion_by_trying_agrees() {
 
 #[test]
 fn harness_passes_the_reference() {
-    let mut tables = Tables::new(3);
-    boundary::compare_fixed(&mut Reference, &mut tables).unwrap();
-    let spread = boundary::compare_corpus(&mut Reference, SEED, 0, 2_000, &mut tables).unwrap();
-    println!("{spread:?}");
+    let folder = Path::new(env!("CARGO_MANIFEST_DIR")).join("data");
+    let mut comparison = Comparison::new(3);
+    comparison.fixed(&mut Reference).unwrap();
+    comparison.corpus(&mut Reference, SEED, 0, 1_000).unwrap();
+    comparison.lists(&mut Reference, SEED, 300).unwrap();
+    comparison.damaged_data(&mut Reference, &folder, SEED, 2).unwrap();
+    println!("{:?}", comparison.tally.numbers);
 }
 
 #[test]
 fn stored_pairs() {
     let folder = Path::new(env!("CARGO_MANIFEST_DIR")).join("data");
-    let count = boundary::compare_data(&mut Reference, &folder, &mut Tables::new(4)).unwrap();
+    let count = Comparison::new(4).data(&mut Reference, &folder).unwrap();
     println!("{count} stored pairs");
     assert!(count >= 40);
 }
 
-/// A checker that is wrong in a way of its own.
-struct Wrong(fn(&mut [u64; 7], &mut [&mut [i32]; 6], [usize; 6]), u64);
+/// A checker that is wrong in a way of its own: in a check, in a list from
+/// its second check on, in a line's end.
+struct Wrong {
+    check: fn(&mut [u64; 7], &mut [&mut [i32]; 6], [usize; 6]),
+    list: fn(&mut [u32]),
+    line: usize,
+}
 
 impl Checker for Wrong {
     fn check(&mut self, formula: &[u8], certificate: &[u8], mut tables: [&mut [i32]; 6]) -> [u64; 7] {
         let lengths: [usize; 6] = std::array::from_fn(|table| tables[table].len());
         let report = check(formula, certificate, lengths);
         let mut fields = report.verdict.fields();
-        (self.0)(&mut fields, &mut tables, report.needs);
+        (self.check)(&mut fields, &mut tables, report.needs);
         fields
     }
 
-    fn line(&mut self, formula: &[u8], certificate: &[u8], file: i64, line: i64) -> Option<(u8, usize, usize)> {
-        if self.1 == 1 && line == 0 {
-            return Some((2, 0, 0));
-        }
-        Some(reference::line_bytes(formula, certificate, file, line))
+    fn check_all(&mut self, bytes: &[u8], ends: &[usize], tables: [&mut [i32]; 6], out: &mut [u32]) {
+        Reference.check_all(bytes, ends, tables, out);
+        (self.list)(out);
+    }
+
+    fn line(&mut self, formula: &[u8], certificate: &[u8], file: i64, line: i64) -> (u8, usize, usize) {
+        let (which, start, end) = reference::line_bytes(formula, certificate, file, line);
+        (which, start, end - self.line.min(end - start))
     }
 }
+
+const RIGHT: Wrong = Wrong { check: |_, _, _| {}, list: |_| {}, line: 0 };
 
 #[test]
 fn harness_catches_wrong_checkers() {
     let wrong = [
-        Wrong(|fields, _, _| *fields = [0; 7], 0),
-        Wrong(|fields, _, _| fields[6] = 0, 0),
-        Wrong(|fields, _, _| fields[3] += u64::from(fields[1] == 10), 0),
+        Wrong { check: |fields, _, _| *fields = [0; 7], ..RIGHT },
+        Wrong { check: |fields, _, _| fields[6] = 0, ..RIGHT },
+        Wrong { check: |fields, _, _| fields[3] += u64::from(fields[1] == 10), ..RIGHT },
         // One place beyond the need is written.
-        Wrong(|_, tables, needs| if let Some(place) = tables[5].get_mut(needs[5]) { *place ^= 1 }, 0),
-        Wrong(|_, tables, needs| if let Some(place) = tables[0].get_mut(needs[0]) { *place ^= 1 }, 0),
-        // The call for a line's bytes, below line 1.
-        Wrong(|_, _, _| {}, 1),
+        Wrong { check: |_, tables, needs| if let Some(place) = tables[5].get_mut(needs[5]) { *place ^= 1 }, ..RIGHT },
+        Wrong { check: |_, tables, needs| if let Some(place) = tables[0].get_mut(needs[0]) { *place ^= 1 }, ..RIGHT },
+        // What the tables held enters the verdict.
+        Wrong { check: |fields, tables, _| fields[4] += u64::from(tables[1].last().is_some_and(|n| *n == i32::MAX)), ..RIGHT },
+        // The first verdict is echoed; a result is lost; a number is written too far.
+        Wrong { list: |out| if out.len() > 13 { out.copy_within(0..7, 7) }, ..RIGHT },
+        Wrong { list: |out| if let Some(place) = out.last_mut() { *place ^= 1 }, ..RIGHT },
+        // The call for a line's bytes leaves the last one out.
+        Wrong { line: 1, ..RIGHT },
     ];
     for (place, mut checker) in wrong.into_iter().enumerate() {
-        let mut tables = Tables::new(9);
-        let found = boundary::compare_corpus(&mut checker, SEED, 0, 500, &mut tables);
+        let mut comparison = Comparison::new(9);
+        let found = comparison.corpus(&mut checker, SEED, 0, 500).and_then(|()| comparison.lists(&mut checker, SEED, 100));
         assert!(found.is_err(), "wrong checker {place} passes");
     }
+    let mut comparison = Comparison::new(9);
+    comparison.corpus(&mut { RIGHT }, SEED, 0, 500).and_then(|()| comparison.lists(&mut { RIGHT }, SEED, 100)).unwrap();
 }

@@ -1,0 +1,93 @@
+// Checks pairs of files with the proved library: example FORMULA CERTIFICATE [FORMULA CERTIFICATE ...]
+// One pair is one check; several are one list of checks in the same tables. Prints the seven fields for each pair and, for a
+// refusal, the line that it names. Exit status: 0 all accepted, 1 one refused, 2 trouble.
+#include "hutsvida.h"
+
+#include <array>
+#include <cstdio>
+#include <fstream>
+#include <iterator>
+#include <vector>
+
+namespace {
+
+using Bytes = std::vector<uint8_t>;
+
+struct Tables {
+    // Places for all that files of document 01's limits can need.
+    std::array<std::vector<int32_t>, 6> stores{
+        std::vector<int32_t>(4096),   std::vector<int32_t>(524288), std::vector<int32_t>(524288),
+        std::vector<int32_t>(524288), std::vector<int32_t>(524288), std::vector<int32_t>(16384)};
+
+    int32_t *at(size_t table) { return stores[table].data(); }
+    size_t length(size_t table) const { return stores[table].size(); }
+};
+
+bool read_file(const char *name, Bytes &bytes) {
+    std::ifstream file(name, std::ios::binary);
+    if (!file) return false;
+    bytes.assign(std::istreambuf_iterator<char>(file), std::istreambuf_iterator<char>());
+    return !file.bad();
+}
+
+void check(const Bytes &formula, const Bytes &certificate, Tables &t, uint32_t *seven) {
+    hutsvida_check(formula.data(), formula.size(), certificate.data(), certificate.size(), t.at(0), t.length(0), t.at(1),
+                   t.length(1), t.at(2), t.length(2), t.at(3), t.length(3), t.at(4), t.length(4), t.at(5), t.length(5), seven);
+}
+
+void check_all(const std::vector<Bytes> &files, Tables &t, std::vector<uint32_t> &out) {
+    Bytes bytes;
+    bytes.reserve(1);
+    std::vector<size_t> ends;
+    for (const Bytes &file : files) {
+        bytes.insert(bytes.end(), file.begin(), file.end());
+        ends.push_back(bytes.size());
+    }
+    hutsvida_check_all(bytes.data(), bytes.size(), ends.data(), ends.size(), t.at(0), t.length(0), t.at(1), t.length(1), t.at(2),
+                       t.length(2), t.at(3), t.length(3), t.at(4), t.length(4), t.at(5), t.length(5), out.data(), out.size());
+}
+
+void print(const uint32_t *seven, const Bytes &formula, const Bytes &certificate) {
+    std::printf("%s", seven[HUTSVIDA_WORD] == 0 ? "accepted" : "refused");
+    for (int field = HUTSVIDA_NUMBER; field < HUTSVIDA_FIELDS; field++) std::printf(",%u", seven[field]);
+    std::printf("\n");
+    if (seven[HUTSVIDA_LINE] == 0) return;
+    size_t ends[2];
+    hutsvida_line(formula.data(), formula.size(), certificate.data(), certificate.size(), seven[HUTSVIDA_FILE],
+                  seven[HUTSVIDA_LINE], ends);
+    const Bytes &file = seven[HUTSVIDA_FILE] == 1 ? formula : certificate;
+    std::printf("  ");
+    for (size_t i = ends[0]; i < ends[1]; i++) std::putchar(file[i] < 32 || 126 < file[i] ? '.' : file[i]);
+    std::printf("\n");
+}
+
+}  // namespace
+
+int main(int count, char **names) {
+    if (count < 3 || count % 2 == 0) {
+        std::fprintf(stderr, "usage: example FORMULA CERTIFICATE [FORMULA CERTIFICATE ...]\n");
+        return 2;
+    }
+    // A byte of room each: the pointer to an empty file is not null.
+    std::vector<Bytes> files(count - 1, Bytes(1));
+    for (int i = 1; i < count; i++) {
+        if (!read_file(names[i], files[i - 1])) {
+            std::fprintf(stderr, "example: cannot read %s\n", names[i]);
+            return 2;
+        }
+    }
+    Tables tables;
+    std::vector<uint32_t> out(files.size() / 2 * HUTSVIDA_FIELDS);
+    if (files.size() == 2) {
+        check(files[0], files[1], tables, out.data());
+    } else {
+        check_all(files, tables, out);
+    }
+    bool all = true;
+    for (size_t i = 0; i < files.size(); i += 2) {
+        const uint32_t *seven = &out[i / 2 * HUTSVIDA_FIELDS];
+        print(seven, files[i], files[i + 1]);
+        all = all && seven[HUTSVIDA_WORD] == 0;
+    }
+    return all ? 0 : 1;
+}

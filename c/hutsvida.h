@@ -1,0 +1,68 @@
+/* Hutsvida: a proved checker of FERAT certificates, for callers in C and C++.
+ *
+ * `rt staticlib ferat_c` proves the library and writes target/staticlib/libferat_c.a (x86-64 Linux). The words in capitals
+ * are document 01's; the promises are in crates/ferat_c, crates/ferat/specs/Check.antt and crates/checks/specs/All.antt.
+ *
+ * Every call takes all inputs, ends, and writes only to what it is lent for writing. What is lent for writing overlaps nothing
+ * else that is lent to the same call. A pointer with length 0 is not read, but is not null. The calls keep nothing between
+ * them: calls on different tables may run side by side. The two checks take about 2.2 MiB of stack. */
+#ifndef HUTSVIDA_H
+#define HUTSVIDA_H
+
+#include <stddef.h>
+#include <stdint.h>
+
+#ifdef __cplusplus
+extern "C" {
+#endif
+
+/* The seven fields of a verdict, by their place in `seven`. */
+enum {
+    HUTSVIDA_WORD = 0,       /* 0 accepted, 1 refused */
+    HUTSVIDA_NUMBER = 1,     /* 0, or the refusal's number, 1 to 15 */
+    HUTSVIDA_FILE = 2,       /* 0 none, 1 formula, 2 certificate */
+    HUTSVIDA_LINE = 3,       /* counted from 1; 0 where no line is meant */
+    HUTSVIDA_EXPANSIONS = 4, /* `e` lines accepted */
+    HUTSVIDA_ADDITIONS = 5,  /* addition lines accepted */
+    HUTSVIDA_DELETIONS = 6,  /* deletion lines accepted */
+    HUTSVIDA_FIELDS = 7
+};
+
+/* THE CHECK of a formula (QDIMACS) and a certificate (FERAT) in six lent tables, whatever these hold. Accepted means that the
+ * formula is false. Table places beyond those that the files need hold what they held. */
+void hutsvida_check(const uint8_t *formula, size_t formula_length,
+                    const uint8_t *certificate, size_t certificate_length,
+                    int32_t *prefix, size_t prefix_length,
+                    int32_t *matrix, size_t matrix_length,
+                    int32_t *map, size_t map_length,
+                    int32_t *proof, size_t proof_length,
+                    int32_t *marks, size_t marks_length,
+                    int32_t *values, size_t values_length,
+                    uint32_t seven[HUTSVIDA_FIELDS]);
+
+/* THE LIST of checks, one after the other in the same tables. The files stand one after the other in `bytes`: ends[0] is the
+ * end of the first formula, ends[1] that of its certificate, and so on; an end below the one before it counts as that one, an
+ * end above bytes_length as bytes_length, and an odd last end is left alone. The check with index i writes its fields to
+ * out[7 * i] and the six places after it; fields beyond out_length are dropped. Each verdict is the one that a single check
+ * gives in tables of zeros of the same sizes. */
+void hutsvida_check_all(const uint8_t *bytes, size_t bytes_length,
+                        const size_t *ends, size_t ends_length,
+                        int32_t *prefix, size_t prefix_length,
+                        int32_t *matrix, size_t matrix_length,
+                        int32_t *map, size_t map_length,
+                        int32_t *proof, size_t proof_length,
+                        int32_t *marks, size_t marks_length,
+                        int32_t *values, size_t values_length,
+                        uint32_t *out, size_t out_length);
+
+/* A LINE of the formula (file 1) or of the certificate (any other number): where it starts and where it ends in its file,
+ * byte 10 left out. Where there is no such line, both are the file's length. */
+void hutsvida_line(const uint8_t *formula, size_t formula_length,
+                   const uint8_t *certificate, size_t certificate_length,
+                   uint32_t file, size_t line, size_t ends[2]);
+
+#ifdef __cplusplus
+}
+#endif
+
+#endif

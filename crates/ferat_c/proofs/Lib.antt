@@ -1,0 +1,2 @@
+-- Laws of the calls of this crate.
+pub mod EndsLaws
