@@ -20,15 +20,6 @@ use Rattle.prefix.specs.Prefix.{entry}
 use Rattle.formula.specs.declared.Marked.{Marked}
 use Rattle.formula.specs.Tables.{isBound, Pass, pass, Few, Marks}
 
--- THE WORD OF A VARIABLE
-pub word-none : (p : List ℤ) {v : ℕ} → v ≡ 0 → 0 ≡ entry p v
-unfolding entry
-word-none p {v} e = sym (ap (λ b. cond b 0 (cellAt p (v - 1))) (eq-eqb v 0 e))
-
-pub word-some : (p : List ℤ) {v i r : ℕ} → (v ≡ 0 → ⊥) → i ≡ v - 1 → r ≡ cellAt p i → r ≡ entry p v
-unfolding entry
-word-some p {v} {i} {r} e f g = g ∙ ap (cellAt p) f ∙ sym (ap (λ b. cond b 0 (cellAt p (v - 1))) (ne-eqb v 0 e))
-
 -- ZEROS STORED IN FRONT
 pub record Zeroing (t₀ : List ℤ) (n : ℕ) (t : List ℤ) (i : ℕ) : Type 0 where
   pub below : i ≤ n

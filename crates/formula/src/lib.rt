@@ -50,10 +50,7 @@ fn wide(x: u32) -> usize
 fn word_of(prefix: &[i32], v: u32) -> u32
     ensures { λ r. ⌜ r ≡ entry (now (prefix .entry)) v ⌝ }
 {
-    if v == 0 {
-        return 0;
-    }
-    cells::cell(prefix, wide(v - 1))
+    prefix::word(prefix, wide(v))
 }
 
 // Zeros in front, as far as the table goes.
