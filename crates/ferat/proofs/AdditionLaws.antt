@@ -17,13 +17,17 @@ use Rattle.rules.specs.Propagation.{rup, less, rat}
 use Rattle.rules.proofs.Kit.{clear, by-yes, all-in, in-all, keep-in, in-keep}
 use Rattle.rules.proofs.CodesLaw.{lit-flip}
 use Rattle.ferat.specs.declared.addition.Addition.the-variants.{Accepted, Refused}
+use Rattle.ferat.specs.declared.propagation.Visit.{Visit}
+use Rattle.ferat.specs.declared.propagation.Visit.the-variants as visit
 use Rattle.ferat.specs.declared.propagation.Propagated.{Propagated}
+use Rattle.ferat.specs.declared.propagation.Propagated.the-variants as propagated
 use Rattle.ferat.specs.Standing.{clauseAt, standing, literals}
-use Rattle.ferat.specs.Trail.{In, Good, Denies, truth, Ready, Undone, Holds, Moved, Clash, Held}
+use Rattle.ferat.specs.Trail.{In, Good, Denies, truth, Ready, Undone, Holds, Moved, Clash, Visited, Held}
 use Rattle.ferat.specs.Additions.{rupOf, ratOn, ratOf, accepts, lessCode, Both, Refuted, Follows, Tried, Decided}
 use Rattle.ferat.proofs.TrailLaws.{ready-undone}
 use Rattle.ferat.proofs.StandingLaws.{standing-in, standing-out, standing-grow}
-use Rattle.ferat.proofs.DenyLaws.{denies-part, less-nil}
+use Rattle.ferat.proofs.AnswerLaws.{visited-clash, visited-moved}
+use Rattle.ferat.proofs.DenyLaws.{denies-part, less-nil, refuted-clash, refuted-good}
 use Rattle.ferat.proofs.BridgeLaws.{in-map, map-in, map-append, holds-lit, less-lits, rup-true, rup-false}
 
 -- WHAT STAYS ON THE TRAIL between lines
@@ -43,7 +47,7 @@ held-more i h = record {
 
 -- A CANDIDATE d, on top of the trail of the failed RUP
 module _ (S : List (List ℕ)) (c : List ℕ) where
-  pub follows-moved : {f₀ t₀ : List ℕ} {n₀ : ℕ} {f t : List ℕ} {n : ℕ} → Held S f₀ t₀ n₀ → Moved (Both S c) f₀ t₀ n₀ f t n → Follows S c t n
+  follows-moved : {f₀ t₀ : List ℕ} {n₀ : ℕ} {f t : List ℕ} {n : ℕ} → Held S f₀ t₀ n₀ → Moved (Both S c) f₀ t₀ n₀ f t n → Follows S c t n
   unfolding Follows
   follows-moved h m = λ Q g d. m .sound Q (g, d) (h .based Q g)
 
@@ -166,10 +170,10 @@ pub rat-first : (S : List (List ℕ)) (c : List ℕ) (l : ℕ) (c′ : List ℕ)
 rat-first S c l c′ e = subst (λ (x : List ℕ). ratOn S x l ≡ ratOf S x) (sym e) (unfold ratOn ratOf rat in refl)
 
 -- THE WHOLE LINE: the clause alone is the clause joined with nothing
-pub alone : (t : List ℤ) (c : List ℕ) → c ++ lessCode 0 (listAt t (length t)) ≡ c
+alone : (t : List ℤ) (c : List ℕ) → c ++ lessCode 0 (listAt t (length t)) ≡ c
 alone t c = ap (λ (x : List ℕ). c ++ x) (ap (lessCode 0) (list-past t (length t) (omega arith)) ∙ less-nil 0) ∙ append-nil c
 
-pub refuted-as : (S : List (List ℕ)) (c c′ f₀ t₀ : List ℕ) (n₀ : ℕ) (f t : List ℕ) (r : Propagated) → c ≡ c′ → Refuted S c f₀ t₀ n₀ f t r → Refuted S c′ f₀ t₀ n₀ f t r
+refuted-as : (S : List (List ℕ)) (c c′ f₀ t₀ : List ℕ) (n₀ : ℕ) (f t : List ℕ) (r : Propagated) → c ≡ c′ → Refuted S c f₀ t₀ n₀ f t r → Refuted S c′ f₀ t₀ n₀ f t r
 refuted-as S c c′ f₀ t₀ n₀ f t r e v = subst (λ (x : List ℕ). Refuted S x f₀ t₀ n₀ f t r) e v
 
 module _ (S : List (List ℕ)) (c : List ℕ) where
@@ -183,11 +187,11 @@ module _ (S : List (List ℕ)) (c : List ℕ) where
 
   module _ {f₀ t₀ : List ℕ} {n₀ : ℕ} (h : Held S f₀ t₀ n₀) {f t : List ℕ} where
     -- a conflict of the standing clauses alone
-    pub decided-closed : {b : ℕ} (q : ℕ) → Moved (Good S) f₀ t₀ n₀ f t b × Clash (Good S) t₀ n₀ → Decided S c f t (Accepted (record { n = b; q = q }))
+    decided-closed : {b : ℕ} (q : ℕ) → Moved (Good S) f₀ t₀ n₀ f t b × Clash (Good S) t₀ n₀ → Decided S c f t (Accepted (record { n = b; q = q }))
     unfolding Decided
     decided-closed q v = (held-moved h (v .0), accepts-rup (rup-true S c (λ Q g d. v .1 Q g (h .based Q g))))
 
-    pub decided-rup : {k : ℕ} (q : ℕ) (f′ : List ℕ) → Undone f t n₀ f′ → Moved (Both S c) f₀ t₀ n₀ f t k × Clash (Both S c) t₀ n₀
+    decided-rup : {k : ℕ} (q : ℕ) (f′ : List ℕ) → Undone f t n₀ f′ → Moved (Both S c) f₀ t₀ n₀ f t k × Clash (Both S c) t₀ n₀
         → Decided S c f′ t (Accepted (record { n = n₀; q = q }))
     unfolding Decided
     decided-rup {k} q f′ u v =
@@ -198,14 +202,41 @@ module _ (S : List (List ℕ)) (c : List ℕ) where
       answer : accepts S c ≡ ok
       answer = accepts-rat (rup-false S c (truth f) (v .1) (v .2)) ∙ sym (w .1)
 
-      pub decided-rat : (q : ℕ) (f″ : List ℕ) → Undone f′ t′ n₀ f″ → ok ≡ true → Decided S c f″ t′ (Accepted (record { n = n₀; q = q }))
+      decided-rat : (q : ℕ) (f″ : List ℕ) → Undone f′ t′ n₀ f″ → ok ≡ true → Decided S c f″ t′ (Accepted (record { n = n₀; q = q }))
       unfolding Decided
       decided-rat q f″ u e =
           (held-kept h (ready-undone f′ t′ k n₀ f″ (w .0 .ready) u) (λ j lt. w .0 .kept j (omega (arith, v .0 .up)) ∙ v .0 .kept j lt), answer ∙ e)
 
-      pub decided-no : ok ≡ false → Decided S c f′ t′ Refused
+      decided-no : ok ≡ false → Decided S c f′ t′ Refused
       unfolding Decided
       decided-no e = answer ∙ e
+
+-- THE ANSWERS, in the code's order: what stood is followed (v), the clause is denied (p), its candidates are tried (ok)
+module _ (S : List (List ℕ)) (c : List ℕ) {f₀ t₀ : List ℕ} {n₀ : ℕ} (h : Held S f₀ t₀ n₀) (f₁ t₁ : List ℕ) {v : Visit} {b : ℕ} where
+  pub added-closed : (q : ℕ) → v ≡ visit.Conflict b → Visited S f₀ t₀ n₀ f₁ t₁ v → Decided S c f₁ t₁ (Accepted (record { n = b; q = q }))
+  added-closed q e m = decided-closed S c h q (visited-clash e m)
+
+  module _ (e : v ≡ visit.Go b) (m : Visited S f₀ t₀ n₀ f₁ t₁ v) (t : List ℤ) (f₂ t₂ : List ℕ) (p : Propagated)
+      (r : Refuted S (c ++ lessCode 0 (listAt t (length t))) f₁ t₁ b f₂ t₂ p) where
+    followed : Held S f₁ t₁ b
+    followed = held-moved h (visited-moved e m)
+
+    denied : Refuted S c f₁ t₁ b f₂ t₂ p
+    denied = refuted-as S (c ++ lessCode 0 (listAt t (length t))) c f₁ t₁ b f₂ t₂ p (alone t c) r
+
+    pub added-rup : {k : ℕ} (q : ℕ) {f₃ : List ℕ} → p ≡ propagated.Conflict k → Undone f₂ t₂ b f₃ → Decided S c f₃ t₂ (Accepted (record { n = b; q = q }))
+    added-rup q {f₃} z u = decided-rup S c followed q f₃ u (refuted-clash c z denied)
+
+    module _ {k : ℕ} (z : p ≡ propagated.Stable k) where
+      pub rat-asked : Ready f₂ t₂ k × Follows S c t₂ k
+      rat-asked = let w = refuted-good c z denied in (w .0 .ready, follows-moved S c followed (w .0))
+
+      module _ {f₃ t₃ : List ℕ} {ok : Bool} (w : Tried t₂ k f₃ t₃ × (ok ≡ ratOf S c)) where
+        pub added-rat : (q : ℕ) {f₄ : List ℕ} → Undone f₃ t₃ b f₄ → ok ≡ true → Decided S c f₄ t₃ (Accepted (record { n = b; q = q }))
+        added-rat q {f₄} u y = decided-rat S c followed (refuted-good c z denied) f₃ t₃ ok w q f₄ u y
+
+        pub added-no : ok ≡ false → Decided S c f₃ t₃ Refused
+        added-no y = decided-no S c followed (refuted-good c z denied) f₃ t₃ ok w y
 
 -- THE CLAUSE STANDS
 pub mark-stored : (ms ms′ : List ℤ) (count used : ℕ) → used < 1073741824 → ms′ ≡ set ms count (pos ((2 * used + 1) % 2147483648))

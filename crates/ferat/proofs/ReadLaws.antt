@@ -3,6 +3,8 @@ use mathlib.Core.Path.{_≡_, refl, ap, sym, _∙_, subst}
 use mathlib.Core.List.{List}
 use Prim.Native.Nat.{ℕ, _+_, _-_, _*_, _≤_, _<_}
 use native.Mathlib.Omega.{arith}
+use mir.Syntax.{w32, w64}
+use mir.Val.{Fits}
 use lib.IntN.{ℤ}
 use lib.ListN.{length, take, drop, length-drop}
 use lib.Seq.{length-take-le}
@@ -61,6 +63,16 @@ module _ (bs : List ℕ) (p₀ : Progress) (starts : List ℕ) (t₀ : Tables) w
   module _ {at n : ℕ} {p : Progress} {t : Tables} {off trail : List ℕ} {k : ℕ} (m : Midway at n p t off trail k) {e : ℕ} (h : e ≡ at + run (passes Line) (drop at bs)) where
     pub midway-ends : e ≤ length bs
     midway-ends = line-within bs at h (m .within)
+
+    -- what is left to read becomes less
+    pub midway-less : e < length bs → length bs - (e + 1) < length bs - at
+    midway-less l = omega (arith, l, h)
+
+    pub midway-fits : length bs ≤ 1048576 → e < length bs → Fits w64 (e + 1)
+    midway-fits z l = omega (arith, z, l)
+
+    pub midway-count : length bs ≤ 1048576 → Fits w32 (n + 1)
+    midway-count z = omega (arith, m .count, m .within, z)
 
     line-length : length (take (e - at) (drop at bs)) ≡ e - at
     line-length = length-take-le (e - at) (drop at bs) (omega (arith, length-drop at bs, midway-ends))

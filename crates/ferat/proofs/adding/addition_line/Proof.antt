@@ -1,4 +1,4 @@
-use mathlib.Core.Path.{sym, _∙_}
+use mathlib.Core.Path.{refl, sym, _∙_}
 use native.Mathlib.Omega.{arith}
 use Rattle.lists.proofs.FormLaws.{clause-told}
 use Rattle.ferat.proofs.JudgeLaws.{count-low}
@@ -65,11 +65,11 @@ with-addition-requires c κs = let l = count-low (clause-told _ _ (sym (c .befor
 
 -- src/adding.rt:78:1
 same-length : tie.Need-same-length
-same-length c = search needs
+same-length c = c .before .before .before .before .before .before .before .before .before .before .before .store-list .kept .1 .1 .0
 
 -- src/adding.rt:78:1
 same-length-2 : tie.Need-same-length-2
-same-length-2 c = search needs
+same-length-2 c = refl
 
 -- src/adding.rt:78:1
 returns-3 : tie.Need-returns-3
@@ -81,7 +81,7 @@ same-length-3 c = c .before .before .before .before .before .before .before .bef
 
 -- src/adding.rt:78:1
 same-length-4 : tie.Need-same-length-4
-same-length-4 c = search needs
+same-length-4 c = c .before .before .stand .kept .1 .0
 
 -- src/adding.rt:78:1
 returns-4 : tie.Need-returns-4

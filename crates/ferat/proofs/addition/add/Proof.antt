@@ -1,7 +1,7 @@
 use borrow.Author.Needs.{needs}
-use Rattle.ferat.proofs.AnswerLaws.{visited-clash, visited-moved}
+use Rattle.ferat.proofs.AnswerLaws.{visited-moved}
 use Rattle.ferat.proofs.DenyLaws.{refuted-clash, refuted-good}
-use Rattle.ferat.proofs.AdditionLaws.{alone, refuted-as, held-moved, follows-moved, decided-closed, decided-rup, decided-rat, decided-no}
+use Rattle.ferat.proofs.AdditionLaws.{added-closed, added-rup, rat-asked, added-rat, added-no}
 use Rattle.ferat.proofs.addition.add.Statement.{statement}
 use Rattle.ferat.proofs.addition.add.Tie as tie
 use Rattle.ferat.proofs.addition.add.Reads as reads
@@ -41,10 +41,7 @@ enum-known-k-2 c = search needs
 
 -- src/addition.rt:154:20
 is-rat-requires : tie.Need-is-rat-requires
-is-rat-requires c κs =
-    let h = held-moved (c .before .before .before .before .before .before .before .before .before .before .before .before .before .before .before .before .before .before .before .before .before .before .before .pre) (visited-moved (c .before .before .before .before .before .before .before .before .before .before .before .before .before .before .before .b2 .given .1) (c .before .before .before .before .before .before .before .before .before .before .before .before .before .before .before .before .before .ground .ensures)) in
-    let v = refuted-good _ (c .before .before .before .before .before .before .k2 .given .1) (refuted-as _ _ _ _ _ _ _ _ _ (alone _ _) (c .before .before .before .before .before .before .before .before .refute .ensures)) in
-    (v .0 .ready, follows-moved _ _ h (v .0))
+is-rat-requires c κs = rat-asked _ _ (c .before .before .before .before .before .before .before .before .before .before .before .before .before .before .before .before .before .before .before .before .before .before .before .pre) _ _ (c .before .before .before .before .before .before .before .before .before .before .before .before .before .before .before .b2 .given .1) (c .before .before .before .before .before .before .before .before .before .before .before .before .before .before .before .before .before .ground .ensures) (c .before .before .before .before .before .before .before .before .before .before .before .before .before .before .before .before .before .before .before .before .before .before .before .args .table .now) _ _ _ (c .before .before .before .before .before .before .before .before .refute .ensures) (c .before .before .before .before .before .before .k2 .given .1)
 
 -- src/addition.rt:155:21
 undo-requires-2 : tie.Need-undo-requires-2
@@ -54,27 +51,19 @@ undo-requires-2 c κs =
 
 -- src/addition.rt:156:21
 returns : tie.Need-returns
-returns c =
-    let h = held-moved (c .before .before .before .before .before .before .before .before .before .before .before .before .before .before .before .before .before .before .before .before .before .before .before .before .before .before .before .before .pre) (visited-moved (c .before .before .before .before .before .before .before .before .before .before .before .before .before .before .before .before .before .before .before .before .b2 .given .1) (c .before .before .before .before .before .before .before .before .before .before .before .before .before .before .before .before .before .before .before .before .before .before .ground .ensures)) in
-    let v = refuted-good _ (c .before .before .before .before .before .before .before .before .before .before .before .k2 .given .1) (refuted-as _ _ _ _ _ _ _ _ _ (alone _ _) (c .before .before .before .before .before .before .before .before .before .before .before .before .before .refute .ensures)) in
-    decided-rat _ _ h v _ _ _ (c .before .before .before .before .is-rat .ensures) _ _ (c .undo2 .ensures) (c .before .before .before .if1 .taken)
+returns c = added-rat _ _ (c .before .before .before .before .before .before .before .before .before .before .before .before .before .before .before .before .before .before .before .before .before .before .before .before .before .before .before .before .pre) _ _ (c .before .before .before .before .before .before .before .before .before .before .before .before .before .before .before .before .before .before .before .before .b2 .given .1) (c .before .before .before .before .before .before .before .before .before .before .before .before .before .before .before .before .before .before .before .before .before .before .ground .ensures) (c .before .before .before .before .before .before .before .before .before .before .before .before .before .before .before .before .before .before .before .before .before .before .before .before .before .before .before .before .args .table .now) _ _ _ (c .before .before .before .before .before .before .before .before .before .before .before .before .before .refute .ensures) (c .before .before .before .before .before .before .before .before .before .before .before .k2 .given .1) (c .before .before .before .before .is-rat .ensures) _ (c .undo2 .ensures) (c .before .before .before .if1 .taken)
 
 -- src/addition.rt:140:1
 returns-2 : tie.Need-returns-2
-returns-2 c = decided-closed _ _ (c .before .before .before .before .before .before .before .before .before .pre) _ (visited-clash (c .before .b .given .1) (c .before .before .before .ground .ensures))
+returns-2 c = added-closed _ _ (c .before .before .before .before .before .before .before .before .before .pre) _ _ _ (c .before .b .given .1) (c .before .before .before .ground .ensures)
 
 -- src/addition.rt:140:1
 returns-3 : tie.Need-returns-3
-returns-3 c =
-    let h = held-moved (c .before .before .before .before .before .before .before .before .before .before .before .before .before .before .before .before .before .before .before .before .before .pre) (visited-moved (c .before .before .before .before .before .before .before .before .before .before .before .before .before .b2 .given .1) (c .before .before .before .before .before .before .before .before .before .before .before .before .before .before .before .ground .ensures)) in
-    decided-rup _ _ h _ _ (c .undo .ensures) (refuted-clash _ (c .before .before .before .before .k .given .1) (refuted-as _ _ _ _ _ _ _ _ _ (alone _ _) (c .before .before .before .before .before .before .refute .ensures)))
+returns-3 c = added-rup _ _ (c .before .before .before .before .before .before .before .before .before .before .before .before .before .before .before .before .before .before .before .before .before .pre) _ _ (c .before .before .before .before .before .before .before .before .before .before .before .before .before .b2 .given .1) (c .before .before .before .before .before .before .before .before .before .before .before .before .before .before .before .ground .ensures) (c .before .before .before .before .before .before .before .before .before .before .before .before .before .before .before .before .before .before .before .before .before .args .table .now) _ _ _ (c .before .before .before .before .before .before .refute .ensures) _ (c .before .before .before .before .k .given .1) (c .undo .ensures)
 
 -- src/addition.rt:140:1
 returns-4 : tie.Need-returns-4
-returns-4 c =
-    let h = held-moved (c .before .before .before .before .before .before .before .before .before .before .before .before .before .before .before .before .before .before .before .before .before .before .before .before .before .pre) (visited-moved (c .before .before .before .before .before .before .before .before .before .before .before .before .before .before .before .before .before .b2 .given .1) (c .before .before .before .before .before .before .before .before .before .before .before .before .before .before .before .before .before .before .before .ground .ensures)) in
-    let v = refuted-good _ (c .before .before .before .before .before .before .before .before .k2 .given .1) (refuted-as _ _ _ _ _ _ _ _ _ (alone _ _) (c .before .before .before .before .before .before .before .before .before .before .refute .ensures)) in
-    decided-no _ _ h v _ _ _ (c .before .is-rat .ensures) (c .if1 .left)
+returns-4 c = added-no _ _ (c .before .before .before .before .before .before .before .before .before .before .before .before .before .before .before .before .before .before .before .before .before .before .before .before .before .pre) _ _ (c .before .before .before .before .before .before .before .before .before .before .before .before .before .before .before .before .before .b2 .given .1) (c .before .before .before .before .before .before .before .before .before .before .before .before .before .before .before .before .before .before .before .ground .ensures) (c .before .before .before .before .before .before .before .before .before .before .before .before .before .before .before .before .before .before .before .before .before .before .before .before .before .args .table .now) _ _ _ (c .before .before .before .before .before .before .before .before .before .before .refute .ensures) (c .before .before .before .before .before .before .before .before .k2 .given .1) (c .before .is-rat .ensures) (c .if1 .left)
 
 pub add-spec : {M : Type 1} → statement M
 add-spec =

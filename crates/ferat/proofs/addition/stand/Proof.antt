@@ -33,7 +33,7 @@ add-attach c = search needs
 
 -- src/addition.rt:210:11
 attach-requires : tie.Need-attach-requires
-attach-requires c κs = search needs
+attach-requires c κs = (c .before .before .before .before .before .before .before .before .before .pre .0 .ready, omega arith)
 
 -- src/addition.rt:211:27
 enum-told : tie.Need-enum-told
@@ -45,7 +45,7 @@ enum-known-k c = search needs
 
 -- src/addition.rt:203:1
 same-length : tie.Need-same-length
-same-length c = search needs
+same-length c = c .before .before .before .before .before .before .before .before .before .before .put .kept .0
 
 -- src/addition.rt:203:1
 returns : tie.Need-returns
@@ -55,7 +55,7 @@ returns c =
 
 -- src/addition.rt:203:1
 same-length-2 : tie.Need-same-length-2
-same-length-2 c = search needs
+same-length-2 c = c .before .before .before .before .before .before .before .before .before .before .before .put .kept .0
 
 -- src/addition.rt:203:1
 returns-2 : tie.Need-returns-2

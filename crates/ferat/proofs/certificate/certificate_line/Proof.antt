@@ -75,11 +75,11 @@ returns c = line-skipped _ _ _ _ (c .before .before .kind-of .ensures) (c .enum-
 
 -- src/certificate.rt:64:1
 same-length : tie.Need-same-length
-same-length c = search needs
+same-length c = c .before .before .before .mapping-line .kept .1 .1 .1 .1 .0
 
 -- src/certificate.rt:64:1
 same-length-2 : tie.Need-same-length-2
-same-length-2 c = search needs
+same-length-2 c = c .before .before .before .mapping-line .kept .1 .1 .1 .1 .1 .0
 
 -- src/certificate.rt:64:1
 returns-2 : tie.Need-returns-2
@@ -87,7 +87,7 @@ returns-2 c = line-mapping _ _ _ _ (c .before .before .before .before .before .b
 
 -- src/certificate.rt:64:1
 same-length-3 : tie.Need-same-length-3
-same-length-3 c = search needs
+same-length-3 c = c .before .before .hints-line .kept .1 .1 .1 .0
 
 -- src/certificate.rt:64:1
 returns-3 : tie.Need-returns-3
@@ -95,19 +95,19 @@ returns-3 c = line-hints _ _ _ _ (c .before .before .before .before .before .bef
 
 -- src/certificate.rt:64:1
 same-length-4 : tie.Need-same-length-4
-same-length-4 c = search needs
+same-length-4 c = refl
 
 -- src/certificate.rt:64:1
 same-length-5 : tie.Need-same-length-5
-same-length-5 c = search needs
+same-length-5 c = c .before .before .expanded .kept .1 .1 .1 .1 .1 .1 .1 .0
 
 -- src/certificate.rt:64:1
 same-length-6 : tie.Need-same-length-6
-same-length-6 c = search needs
+same-length-6 c = c .before .before .expanded .kept .1 .1 .1 .1 .1 .1 .1 .1 .0
 
 -- src/certificate.rt:64:1
 same-length-7 : tie.Need-same-length-7
-same-length-7 c = search needs
+same-length-7 c = refl
 
 -- src/certificate.rt:64:1
 returns-4 : tie.Need-returns-4
@@ -115,11 +115,11 @@ returns-4 c = line-expansion _ _ _ _ (c .before .before .before .before .before 
 
 -- src/certificate.rt:64:1
 same-length-8 : tie.Need-same-length-8
-same-length-8 c = search needs
+same-length-8 c = refl
 
 -- src/certificate.rt:64:1
 same-length-9 : tie.Need-same-length-9
-same-length-9 c = search needs
+same-length-9 c = c .before .deletion-line .kept .1 .1 .1 .1 .1 .0
 
 -- src/certificate.rt:64:1
 returns-5 : tie.Need-returns-5
@@ -127,11 +127,11 @@ returns-5 c = line-deletion _ _ _ _ (c .before .before .before .before .before .
 
 -- src/certificate.rt:64:1
 same-length-10 : tie.Need-same-length-10
-same-length-10 c = search needs
+same-length-10 c = c .before .before .addition-line .kept .1 .1 .1 .0
 
 -- src/certificate.rt:64:1
 same-length-11 : tie.Need-same-length-11
-same-length-11 c = search needs
+same-length-11 c = c .before .before .addition-line .kept .1 .1 .1 .1 .0
 
 -- src/certificate.rt:64:1
 returns-6 : tie.Need-returns-6

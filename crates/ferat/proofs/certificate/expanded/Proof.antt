@@ -25,11 +25,11 @@ watch-last-requires c κs = expanded-held _ _ _ _ _ _ _ (c .before .before .befo
 
 -- src/certificate.rt:49:1
 same-length : tie.Need-same-length
-same-length c = search needs
+same-length c = c .before .before .before .before .before .expansion-line .kept .1 .1 .1 .1 .1 .1 .0
 
 -- src/certificate.rt:49:1
 same-length-2 : tie.Need-same-length-2
-same-length-2 c = search needs
+same-length-2 c = c .before .before .before .before .before .expansion-line .kept .1 .1 .1 .1 .1 .1 .1 .0
 
 -- src/certificate.rt:49:1
 returns : tie.Need-returns
@@ -37,11 +37,11 @@ returns c = expanded-refused _ _ _ _ _ _ _ (c .before .before .before .before .b
 
 -- src/certificate.rt:49:1
 same-length-3 : tie.Need-same-length-3
-same-length-3 c = search needs
+same-length-3 c = c .before .before .before .before .before .before .before .before .before .before .before .before .before .expansion-line .kept .1 .1 .1 .1 .1 .1 .0
 
 -- src/certificate.rt:49:1
 same-length-4 : tie.Need-same-length-4
-same-length-4 c = search needs
+same-length-4 c = c .before .before .before .before .before .before .before .before .before .before .before .before .before .expansion-line .kept .1 .1 .1 .1 .1 .1 .1 .0
 
 -- src/certificate.rt:49:1
 returns-2 : tie.Need-returns-2

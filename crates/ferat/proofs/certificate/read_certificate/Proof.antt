@@ -4,7 +4,7 @@ use mathlib.Core.Path.{_≡_, refl, ap, sym, _∙_}
 use Prim.Native.Nat.{ℕ, _-_}
 use lib.ListN.{length}
 use Rattle.ferat.specs.Tables.{tables}
-use Rattle.ferat.proofs.ReadLaws.{Midway, midway-start, midway-ends, midway-long, midway-light, midway-opened, midway-next, midway-refused, midway-last}
+use Rattle.ferat.proofs.ReadLaws.{Midway, midway-start, midway-ends, midway-less, midway-fits, midway-count, midway-long, midway-light, midway-opened, midway-next, midway-refused, midway-last}
 use Rattle.ferat.proofs.certificate.read_certificate.Statement.{statement}
 use Rattle.ferat.proofs.certificate.read_certificate.Tie as tie
 use Rattle.ferat.proofs.certificate.read_certificate.Reads as reads
@@ -47,11 +47,11 @@ certificate-line-requires c κs = (midway-light _ _ _ _ (c .before .before .befo
 
 -- src/certificate.rt:90:27
 enum-known-t : tie.Need-enum-known-t Inv-loop μ-loop
-enum-known-t c = search needs
+enum-known-t c = search c
 
 -- src/certificate.rt:94:29
 enum-known-k : tie.Need-enum-known-k Inv-loop μ-loop
-enum-known-k c = search needs
+enum-known-k c = search c
 
 -- src/certificate.rt:95:17
 same-length : tie.Need-same-length Inv-loop μ-loop
@@ -99,15 +99,15 @@ returns-2 c = midway-last _ _ _ _ (c .before .before .before .before .before .be
 
 -- src/certificate.rt:101:14
 add-at : tie.Need-add-at Inv-loop μ-loop
-add-at c = omega (arith, c .if1 .left, c .before .before .before .before .before .before .before .before .before .before .before .before .before .before .before .before .before .before .before .before .before .before .good)
+add-at c = midway-fits _ _ _ _ (c .before .before .before .before .before .before .before .before .before .before .before .before .before .before .before .before .before .before .before .before .loop .inv) (c .before .before .before .before .before .before .before .before .before .before .before .before .before .before .before .before .before .before .before .past .ensures) (c .before .before .before .before .before .before .before .before .before .before .before .before .before .before .before .before .before .before .before .before .before .before .pre .0) (c .if1 .left)
 
 -- src/certificate.rt:102:9
 add-n : tie.Need-add-n Inv-loop μ-loop
-add-n c = omega (arith, c .before .before .before .before .before .before .before .before .before .before .before .before .before .before .before .before .before .before .before .before .loop .inv .count, c .before .before .before .before .before .before .before .before .before .before .before .before .before .before .before .before .before .before .before .before .loop .inv .within, c .before .before .before .before .before .before .before .before .before .before .before .before .before .before .before .before .before .before .before .before .before .before .pre .0)
+add-n c = midway-count _ _ _ _ (c .before .before .before .before .before .before .before .before .before .before .before .before .before .before .before .before .before .before .before .before .loop .inv) (c .before .before .before .before .before .before .before .before .before .before .before .before .before .before .before .before .before .before .before .past .ensures) (c .before .before .before .before .before .before .before .before .before .before .before .before .before .before .before .before .before .before .before .before .before .before .pre .0)
 
 -- src/certificate.rt:87:5
 loop-less : tie.Need-loop-less Inv-loop μ-loop
-loop-less c = omega (arith, c .if1 .left, c .before .before .before .before .before .before .before .before .before .before .before .before .before .before .before .before .before .before .before .past .ensures)
+loop-less c = midway-less _ _ _ _ (c .before .before .before .before .before .before .before .before .before .before .before .before .before .before .before .before .before .before .before .before .loop .inv) (c .before .before .before .before .before .before .before .before .before .before .before .before .before .before .before .before .before .before .before .past .ensures) (c .if1 .left)
 
 -- src/certificate.rt:87:5
 loop-again : tie.Need-loop-again Inv-loop μ-loop

@@ -1,5 +1,6 @@
 use Rattle.ferat.proofs.AnswerLaws.{turned-clash, turned-moved}
 use Rattle.ferat.proofs.AdditionLaws.{held-moved}
+use native.Mathlib.Omega.{arith}
 use borrow.Author.Needs.{needs}
 use Rattle.ferat.proofs.certificate.watch_last.Statement.{statement}
 use Rattle.ferat.proofs.certificate.watch_last.Tie as tie
@@ -17,7 +18,7 @@ sub-attach c = search needs
 
 -- src/certificate.rt:42:11
 attach-requires : tie.Need-attach-requires
-attach-requires c κs = search needs
+attach-requires c κs = (c .before .before .before .before .before .before .pre .ready, omega (arith, c .before .before .before .before .before .if1 .left))
 
 -- src/certificate.rt:43:27
 enum-told : tie.Need-enum-told

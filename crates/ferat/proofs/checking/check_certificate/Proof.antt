@@ -25,19 +25,19 @@ read-certificate-requires c κs = (c .before .before .before .before .before .be
 
 -- src/checking.rt:37:1
 same-length : tie.Need-same-length
-same-length c = search needs
+same-length c = c .before .before .before .before .read-certificate .kept .1 .1 .1 .1 .1 .0
 
 -- src/checking.rt:37:1
 same-length-2 : tie.Need-same-length-2
-same-length-2 c = search needs
+same-length-2 c = c .before .before .before .before .read-certificate .kept .1 .1 .1 .1 .1 .1 .0
 
 -- src/checking.rt:37:1
 same-length-3 : tie.Need-same-length-3
-same-length-3 c = search needs
+same-length-3 c = c .before .before .before .before .read-certificate .kept .1 .1 .1 .1 .1 .1 .1 .0
 
 -- src/checking.rt:37:1
 same-length-4 : tie.Need-same-length-4
-same-length-4 c = search needs
+same-length-4 c = c .before .before .before .before .read-certificate .kept .1 .1 .1 .1 .1 .1 .1 .1 .0
 
 -- src/checking.rt:37:1
 returns : tie.Need-returns

@@ -61,7 +61,7 @@ with-deletion-requires c κs = search needs
 
 -- src/deleting.rt:78:9
 same-length : tie.Need-same-length
-same-length c = search needs
+same-length c = c .before .before .before .delete .kept .1 .0
 
 -- src/deleting.rt:78:9
 returns-4 : tie.Need-returns-4
@@ -69,7 +69,7 @@ returns-4 c = deletion-next _ _ _ _ _ (sym (c .before .before .before .before .b
 
 -- src/deleting.rt:60:1
 same-length-2 : tie.Need-same-length-2
-same-length-2 c = search needs
+same-length-2 c = c .before .before .delete .kept .1 .0
 
 -- src/deleting.rt:60:1
 returns-5 : tie.Need-returns-5

@@ -1,6 +1,6 @@
 use borrow.Author.Needs.{needs}
 use native.Mathlib.Omega.{arith}
-use mathlib.Core.Path.{_≡_, _∙_, ap}
+use mathlib.Core.Path.{_≡_, refl, _∙_, ap}
 use lib.ListN.{length, length-set}
 use Rattle.ferat.proofs.TrailLaws.{ready-empty}
 use Rattle.ferat.proofs.DeletionLaws.{deleted-none, deleted-at}
@@ -34,7 +34,7 @@ unmark-requires c κs = search needs
 
 -- src/deletion.rt:100:1
 same-length : tie.Need-same-length
-same-length c = search needs
+same-length c = refl
 
 -- src/deletion.rt:100:1
 returns : tie.Need-returns

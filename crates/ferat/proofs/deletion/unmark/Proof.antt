@@ -25,7 +25,7 @@ put-requires c κs = search needs
 
 -- src/deletion.rt:84:1
 same-length : tie.Need-same-length
-same-length c = search needs
+same-length c = c .before .put .kept .0
 
 -- src/deletion.rt:84:1
 returns : tie.Need-returns

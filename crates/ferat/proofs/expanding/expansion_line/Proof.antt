@@ -33,7 +33,7 @@ rule-broken-requires : tie.Need-rule-broken-requires
 rule-broken-requires c κs = search needs
 
 same-length : tie.Need-same-length
-same-length c = search needs
+same-length c = c .before .before .before .before .store-list .kept .1 .1 .0
 
 returns-3 : tie.Need-returns-3
 returns-3 c = expansion-refused _ _ _ _ _ (sym (c .before .before .before .before .before .before .before .before .before .before .before .clause-at .ensures) ∙ c .before .before .before .before .before .before .before .before .before .n .given .1) (expansion-passed _ _ _ _ _ _ (c .before .before .before .before .before .before .before .limit-broken .ensures) (c .before .before .before .before .before .before .if1 .left)) _ (c .before .before .before .before .store-list .ensures) (c .before .rule-broken .ensures) (c .if2 .taken)
@@ -54,10 +54,10 @@ with-expansion-requires : tie.Need-with-expansion-requires
 with-expansion-requires c κs = let l = count-low (clause-told _ _ (sym (c .before .before .before .before .before .before .before .before .before .before .before .before .before .before .clause-at .ensures) ∙ c .before .before .before .before .before .before .before .before .before .before .before .before .n .given .1)) in let w = c .before .before .before .before .before .before .before .before .before .before .before .before .before .before .before .before .pre in let o = (expansion-passed _ _ _ _ _ _ (c .before .before .before .before .before .before .before .before .before .before .limit-broken .ensures) (c .before .before .before .before .before .before .before .before .before .if1 .left)) in let g = c .before .before .before .before .before .before .before .before .before .before .before .before .before .before .before .before .good in (omega arith, omega arith, omega arith)
 
 same-length-2 : tie.Need-same-length-2
-same-length-2 c = search needs
+same-length-2 c = c .before .before .before .before .before .before .before .before .store-list .kept .1 .1 .0
 
 same-length-3 : tie.Need-same-length-3
-same-length-3 c = search needs
+same-length-3 c = c .before .before .put .kept .0
 
 returns-4 : tie.Need-returns-4
 returns-4 c = expansion-next _ _ _ _ _ (sym (c .before .before .before .before .before .before .before .before .before .before .before .before .before .before .before .clause-at .ensures) ∙ c .before .before .before .before .before .before .before .before .before .before .before .before .before .n .given .1) (expansion-passed _ _ _ _ _ _ (c .before .before .before .before .before .before .before .before .before .before .before .limit-broken .ensures) (c .before .before .before .before .before .before .before .before .before .before .if1 .left)) _ (c .before .before .before .before .before .before .before .before .store-list .ensures) (c .before .before .before .before .before .rule-broken .ensures) (c .before .before .before .before .if2 .left) (c .before .before .before .before .before .before .before .before .before .before .before .before .before .before .before .before .before .pre) (c .before .before .put .ensures) (c .with-expansion .ensures)

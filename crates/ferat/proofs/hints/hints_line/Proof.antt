@@ -42,7 +42,7 @@ with-hints-requires : tie.Need-with-hints-requires
 with-hints-requires c κs = let l = count-low (clause-told _ _ (sym (c .before .before .before .before .before .before .before .before .before .before .before .before .clause-at .ensures) ∙ c .before .before .before .before .before .before .before .before .before .before .s .given .1)) in let w = c .before .before .before .before .before .before .before .before .before .before .before .before .before .before .pre in omega arith
 
 same-length : tie.Need-same-length
-same-length c = search needs
+same-length c = c .before .before .store-list .kept .1 .1 .0
 
 returns-5 : tie.Need-returns-5
 returns-5 c = hints-next _ _ _ _ (sym (c .before .before .before .before .before .before .before .before .before .before .before .before .before .clause-at .ensures) ∙ c .before .before .before .before .before .before .before .before .before .before .before .s .given .1) (c .before .before .before .before .before .before .before .before .before .if1 .left) (sym (c .before .before .before .before .before .before .before .before .before-hints .ensures) ∙ c .before .before .before .before .before .before .before .if2 .taken) (c .before .before .before .before .before .if3 .left) (c .before .before .before .before .if4 .left) (c .before .before .store-list .ensures) (c .with-hints .ensures)

@@ -53,28 +53,28 @@ next-requires : tie.Need-next-requires
 next-requires c κs = search needs
 
 same-length : tie.Need-same-length
-same-length c = search needs
+same-length c = c .before .before .before .before .before .before .before .put-mapping .kept .1 .1 .1 .1 .1 .1 .1 .0
 
 same-length-2 : tie.Need-same-length-2
-same-length-2 c = search needs
+same-length-2 c = c .before .before .before .before .before .before .before .put-mapping .kept .1 .1 .1 .1 .1 .1 .1 .1 .0
 
 returns-3 : tie.Need-returns-3
 returns-3 c = line-next (mapping-told _ _ (c .before .before .before .before .before .before .before .before .before .before .before .before .before .before .before .before .before .mapping-at .ensures) (c .before .before .before .before .before .before .before .before .before .before .before .before .before .before .before .k .given .1)) _ _ _ _ (passed-as (mapping-told _ _ (c .before .before .before .before .before .before .before .before .before .before .before .before .before .before .before .before .before .mapping-at .ensures) (c .before .before .before .before .before .before .before .before .before .before .before .before .before .before .before .k .given .1)) (c .before .before .before .before .before .before .before .before .before .before .before .before .before .before .before .before .before .before .before .args .p) (c .before .before .before .before .before .before .before .before .before .before .before .before .before .before .before .before .before .before .before .args .prefix .now) (c .before .before .before .before .before .before .before .before .before .before .before .before .before .before .before .before .before .before .before .args .map .now) (c .before .before .before .before .before .before .before .before .before .before .before .before .before .before .before .before .before .before .before .args .values .now) (c .before .before .before .before .before .before .before .before .before .before .before .before .larger .ensures) (c .before .before .before .before .before .before .before .before .before .before .before .early .ensures) (c .before .before .before .before .before .before .before .before .before .before .if1 .left)) (c .before .before .before .before .before .before .before .put-mapping .ensures) (c .before .before .before .before .before .before .before .put-mapping .kept .1 .1 .1 .1 .1 .1 .1 .0) (c .before .before .before .before .before .before .before .put-mapping .kept .1 .1 .1 .1 .1 .1 .1 .1 .0) (c .before .before .before .before .if2 .taken) (c .before .before .before .annotates .ensures) (c .before .before .if3 .taken) (c .before .before .before .before .before .before .before .before .before .before .before .before .larger .ensures) (c .before .larger2 .ensures) (c .next .ensures)
 
 same-length-3 : tie.Need-same-length-3
-same-length-3 c = search needs
+same-length-3 c = c .before .before .before .before .before .put-mapping .kept .1 .1 .1 .1 .1 .1 .1 .0
 
 same-length-4 : tie.Need-same-length-4
-same-length-4 c = search needs
+same-length-4 c = c .before .before .before .before .before .put-mapping .kept .1 .1 .1 .1 .1 .1 .1 .1 .0
 
 returns-4 : tie.Need-returns-4
 returns-4 c = line-8 (mapping-told _ _ (c .before .before .before .before .before .before .before .before .before .before .before .before .before .before .before .mapping-at .ensures) (c .before .before .before .before .before .before .before .before .before .before .before .before .before .k .given .1)) _ _ _ _ (passed-as (mapping-told _ _ (c .before .before .before .before .before .before .before .before .before .before .before .before .before .before .before .mapping-at .ensures) (c .before .before .before .before .before .before .before .before .before .before .before .before .before .k .given .1)) (c .before .before .before .before .before .before .before .before .before .before .before .before .before .before .before .before .before .args .p) (c .before .before .before .before .before .before .before .before .before .before .before .before .before .before .before .before .before .args .prefix .now) (c .before .before .before .before .before .before .before .before .before .before .before .before .before .before .before .before .before .args .map .now) (c .before .before .before .before .before .before .before .before .before .before .before .before .before .before .before .before .before .args .values .now) (c .before .before .before .before .before .before .before .before .before .before .larger .ensures) (c .before .before .before .before .before .before .before .before .before .early .ensures) (c .before .before .before .before .before .before .before .before .if1 .left)) (c .before .before .before .before .before .put-mapping .ensures) (c .before .before .before .before .before .put-mapping .kept .1 .1 .1 .1 .1 .1 .1 .0) (c .before .before .before .before .before .put-mapping .kept .1 .1 .1 .1 .1 .1 .1 .1 .0) (c .before .before .if2 .taken) (c .before .annotates .ensures) (c .if3 .left)
 
 same-length-5 : tie.Need-same-length-5
-same-length-5 c = search needs
+same-length-5 c = c .before .before .before .put-mapping .kept .1 .1 .1 .1 .1 .1 .1 .0
 
 same-length-6 : tie.Need-same-length-6
-same-length-6 c = search needs
+same-length-6 c = c .before .before .before .put-mapping .kept .1 .1 .1 .1 .1 .1 .1 .1 .0
 
 returns-5 : tie.Need-returns-5
 returns-5 c = line-7 (mapping-told _ _ (c .before .before .before .before .before .before .before .before .before .before .before .before .before .mapping-at .ensures) (c .before .before .before .before .before .before .before .before .before .before .before .k .given .1)) _ _ _ _ (passed-as (mapping-told _ _ (c .before .before .before .before .before .before .before .before .before .before .before .before .before .mapping-at .ensures) (c .before .before .before .before .before .before .before .before .before .before .before .k .given .1)) (c .before .before .before .before .before .before .before .before .before .before .before .before .before .before .before .args .p) (c .before .before .before .before .before .before .before .before .before .before .before .before .before .before .before .args .prefix .now) (c .before .before .before .before .before .before .before .before .before .before .before .before .before .before .before .args .map .now) (c .before .before .before .before .before .before .before .before .before .before .before .before .before .before .before .args .values .now) (c .before .before .before .before .before .before .before .before .larger .ensures) (c .before .before .before .before .before .before .before .early .ensures) (c .before .before .before .before .before .before .if1 .left)) (c .before .before .before .put-mapping .ensures) (c .before .before .before .put-mapping .kept .1 .1 .1 .1 .1 .1 .1 .0) (c .before .before .before .put-mapping .kept .1 .1 .1 .1 .1 .1 .1 .1 .0) (c .if2 .left)

@@ -26,7 +26,7 @@ same-length : tie.Need-same-length
 same-length c = search needs
 
 same-length-2 : tie.Need-same-length-2
-same-length-2 c = search needs
+same-length-2 c = c .before .before .put-copies .kept .1 .1 .1 .1 .1 .1 .0 ∙ c .before .before .before .before .before .before .before .before .before .before .clear .kept .0
 
 returns : tie.Need-returns
 returns c = c .before .before .put-copies .ensures ∙ ap₂ (copying _ _ _ _) (c .before .before .before .before .before .before .before .store-list .ensures) (c .before .before .before .before .before .before .before .before .before .before .clear .ensures)
