@@ -5,8 +5,6 @@
 
 #include <array>
 #include <cstdio>
-#include <fstream>
-#include <iterator>
 #include <vector>
 
 namespace {
@@ -24,10 +22,14 @@ struct Tables {
 };
 
 bool read_file(const char *name, Bytes &bytes) {
-    std::ifstream file(name, std::ios::binary);
-    if (!file) return false;
-    bytes.assign(std::istreambuf_iterator<char>(file), std::istreambuf_iterator<char>());
-    return !file.bad();
+    std::FILE *file = std::fopen(name, "rb");
+    if (file == nullptr) return false;
+    uint8_t part[65536];
+    bytes.clear();
+    for (size_t n; (n = std::fread(part, 1, sizeof part, file)) > 0;) bytes.insert(bytes.end(), part, part + n);
+    bool whole = std::ferror(file) == 0;
+    std::fclose(file);
+    return whole;
 }
 
 void check(const Bytes &formula, const Bytes &certificate, Tables &t, uint32_t *seven) {
@@ -88,6 +90,10 @@ int main(int count, char **names) {
         const uint32_t *seven = &out[i / 2 * HUTSVIDA_FIELDS];
         print(seven, files[i], files[i + 1]);
         all = all && seven[HUTSVIDA_WORD] == 0;
+    }
+    if (std::fflush(stdout) != 0 || std::ferror(stdout) != 0) {
+        std::fprintf(stderr, "example: cannot print the verdicts\n");
+        return 2;
     }
     return all ? 0 : 1;
 }

@@ -2,7 +2,8 @@
 //! list in the same tables. For each pair the verdict's seven fields are
 //! printed and, for a refusal, the file's name, the line's number, the
 //! number's word and the line. Exit status: 0 all accepted, 1 one refused, 2
-//! trouble, and then no verdict is printed.
+//! trouble: then no verdict is printed or, where printing itself failed, what
+//! was printed counts for nothing.
 
 use std::ffi::{OsStr, OsString};
 use std::fs::File;
@@ -57,9 +58,9 @@ fn read_onto(bytes: &mut Vec<u8>, name: &OsStr) -> Result<(), String> {
     Ok(())
 }
 
-/// A name for a message: control characters are escaped.
+/// A name for a message: control characters and backslashes are escaped.
 fn shown(name: &OsStr) -> String {
-    let escape = |c: char| if c.is_control() { c.escape_default().to_string() } else { c.to_string() };
+    let escape = |c: char| if c.is_control() || c == '\\' { c.escape_default().to_string() } else { c.to_string() };
     name.to_string_lossy().chars().map(escape).collect()
 }
 

@@ -40,10 +40,10 @@ impl Folder {
         Ok(Folder(path))
     }
 
+    /// The name is the program's word for it, run in this folder.
     fn write(&self, name: &OsStr, bytes: &[u8]) -> Result<OsString, String> {
-        let path = self.0.join(name);
-        std::fs::write(&path, bytes).map_err(|error| error.to_string())?;
-        Ok(path.into_os_string())
+        std::fs::write(self.0.join(name), bytes).map_err(|error| error.to_string())?;
+        Ok(name.to_os_string())
     }
 }
 
@@ -63,7 +63,7 @@ struct Pair {
 type Shown = fn(names: &[OsString; 2], number: u32, file: usize, line: u32, bytes: &[u8]) -> String;
 
 fn by_command(names: &[OsString; 2], number: u32, file: usize, line: u32, bytes: &[u8]) -> String {
-    let name = names[file - 1].to_string_lossy().replace('\n', "\\n");
+    let name = names[file - 1].to_string_lossy().replace('\\', "\\\\").replace('\n', "\\n");
     let word = WORDS[number as usize];
     if line == 0 {
         return format!("  {name}:0: {word}\n");
@@ -95,6 +95,7 @@ fn expected(pairs: &[Pair], shown: Shown) -> (String, i32) {
     for Pair { names, files } in pairs {
         let verdict = reference::check(&files[0], &files[1], PLACES).verdict;
         text += &format!("{}\n", verdict.text());
+        assert!(verdict.number != 0 || reference::is_false(&files[0]) != Some(false), "accepted, and its formula is true");
         if verdict.number != 0 {
             let (file, line) = (verdict.file as i64, verdict.line as i64);
             let (which, start, end) = reference::line_bytes(&files[0], &files[1], file, line);
@@ -106,14 +107,15 @@ fn expected(pairs: &[Pair], shown: Shown) -> (String, i32) {
     (text, status)
 }
 
-fn run(program: &Path, names: &[OsString], out: Stdio) -> Result<Output, String> {
-    let started = Command::new(program).args(names).stdout(out).stderr(Stdio::piped()).spawn();
+fn run(program: &Path, folder: &Folder, names: &[OsString], out: Stdio) -> Result<Output, String> {
+    let mut command = Command::new(program);
+    let started = command.current_dir(&folder.0).args(names).stdout(out).stderr(Stdio::piped()).spawn();
     started.and_then(|child| child.wait_with_output()).map_err(|error| format!("{}: {error}", program.display()))
 }
 
-fn compare(program: &Path, name: &str, pairs: &[Pair], shown: Shown) -> Result<(), String> {
+fn compare(program: &Path, folder: &Folder, name: &str, pairs: &[Pair], shown: Shown) -> Result<(), String> {
     let names: Vec<OsString> = pairs.iter().flat_map(|pair| pair.names.clone()).collect();
-    let output = run(program, &names, Stdio::piped())?;
+    let output = run(program, folder, &names, Stdio::piped())?;
     let (text, status) = expected(pairs, shown);
     let found = (String::from_utf8_lossy(&output.stdout).into_owned(), output.status.code());
     if found != (text.clone(), Some(status)) {
@@ -124,8 +126,9 @@ fn compare(program: &Path, name: &str, pairs: &[Pair], shown: Shown) -> Result<(
 }
 
 /// Trouble: exit status 2, a message, and nothing printed.
-fn trouble(program: &Path, name: &str, names: &[OsString], out: Stdio) -> Result<(), String> {
-    let output = run(program, names, out)?;
+fn trouble(program: &Path, folder: &Folder, name: &str, names: &[&OsStr], out: Stdio) -> Result<(), String> {
+    let names: Vec<OsString> = names.iter().map(|name| name.to_os_string()).collect();
+    let output = run(program, folder, &names, out)?;
     if output.status.code() != Some(2) || !output.stdout.is_empty() || output.stderr.len() < 10 {
         return Err(format!("{name}: {output:?}"));
     }
@@ -143,12 +146,12 @@ fn stored(folder: &Folder, index: usize, files: [Vec<u8>; 2]) -> Result<Pair, St
 fn compare_pairs(program: &Path, folder: &Folder, data: &Path, shown: Shown) -> Result<usize, String> {
     let mut count = 0;
     for (name, formula, certificate, _) in corpus::data(data)? {
-        compare(program, &name, &[stored(folder, 0, [formula, certificate])?], shown)?;
+        compare(program, folder, &name, &[stored(folder, 0, [formula, certificate])?], shown)?;
         count += 1;
     }
     let cases = fixed::cases().into_iter().map(|case| [case.formula, case.certificate]);
     let pairs: Vec<Pair> = cases.enumerate().map(|(index, files)| stored(folder, index, files)).collect::<Result<_, _>>()?;
-    compare(program, "the fixed cases", &pairs, shown)?;
+    compare(program, folder, "the fixed cases", &pairs, shown)?;
     count += pairs.len();
     let mut rng = Rng::new(8);
     for list in 0..60 {
@@ -157,7 +160,7 @@ fn compare_pairs(program: &Path, folder: &Folder, data: &Path, shown: Shown) -> 
             let case = corpus::case(7, rng.next() >> 20);
             pairs.push(stored(folder, index, [case.formula, case.certificate])?);
         }
-        compare(program, &format!("list {list} of made pairs"), &pairs, shown)?;
+        compare(program, folder, &format!("list {list} of made pairs"), &pairs, shown)?;
         count += pairs.len();
     }
     Ok(count)
@@ -176,53 +179,78 @@ fn dense() -> Vec<([Vec<u8>; 2], &'static str)> {
         ([one.clone(), fill("x 1 0 1 0 0\ne ", "1 ", "0")], "refused,14,2,0,1,0,0"),
         ([one.clone(), fill(expanded, "1 ", "0")], "refused,14,2,0,1,1,0"),
         ([one.clone(), fill("", "x 0 0 0\n", "")], "refused,14,2,0,0,0,0"),
+        ([one.clone(), format!("x {0}0 {0}0 0\n", "1 ".repeat(262_142)).into()], "refused,7,2,1,0,0,0"),
         ([one.clone(), fill("o ", "1 ", "0")], "refused,10,2,0,0,0,0"),
         ([one, fill(expanded, "1 0\n", "")], "refused,14,2,0,1,262139,0"),
         (["p cnf 0 1\n0\n".into(), fill("e 0\n", "0\n", "")], "accepted,0,0,0,1,524286,0"),
     ]
 }
 
+fn output_full() -> Result<Stdio, String> {
+    let full = File::options().write(true).open("/dev/full").map_err(|error| error.to_string())?;
+    Ok(full.into())
+}
+
+/// Trouble that every program must answer in the same way; answers how many
+/// kinds.
+fn compare_trouble(program: &Path, folder: &Folder) -> Result<usize, String> {
+    let files = [fixed::A, fixed::A_PROOF].map(|text| text.replace('/', "\n").into_bytes());
+    let names = stored(folder, 0, files)?.names;
+    let [f, c] = [names[0].as_os_str(), names[1].as_os_str()];
+    let [missing, place] = ["missing", "."].map(OsStr::new);
+    trouble(program, folder, "no arguments", &[], Stdio::piped())?;
+    trouble(program, folder, "one argument", &[f], Stdio::piped())?;
+    trouble(program, folder, "three arguments", &[f, c, f], Stdio::piped())?;
+    trouble(program, folder, "no such formula", &[missing, c], Stdio::piped())?;
+    trouble(program, folder, "no such certificate in the second pair", &[f, c, f, missing], Stdio::piped())?;
+    trouble(program, folder, "a folder", &[f, place], Stdio::piped())?;
+    trouble(program, folder, "no room for the output", &[f, c], output_full()?)?;
+    Ok(7)
+}
+
+/// Any file names: a dash first, blanks, a line's end, a backslash, bytes
+/// that are no UTF-8; and the command called through a link.
+fn compare_names(program: &Path, folder: &Folder) -> Result<usize, String> {
+    let link = folder.0.join("a link");
+    std::os::unix::fs::symlink(program, &link).map_err(|error| error.to_string())?;
+    let files = [fixed::A, "x 1 0 2 0 1 0/o 1 2 0/e 1 0/"].map(|text| text.replace('/', "\n").into_bytes());
+    let names = [&b"--help"[..], b"-x", b"two\nlines", b"back\\slash", b"no \xff UTF-8", b" "];
+    for name in names.map(OsStr::from_bytes) {
+        let formula = folder.write(OsStr::new("-f"), &files[0])?;
+        let pair = Pair { names: [formula, folder.write(name, &files[1])?], files: files.clone() };
+        compare(&link, folder, "a name of its own", &[pair], by_command)?;
+    }
+    Ok(names.len())
+}
+
+fn compare_dense(program: &Path, folder: &Folder) -> Result<usize, String> {
+    let cases = dense();
+    for (files, verdict) in &cases {
+        let output = run(program, folder, &stored(folder, 0, files.clone())?.names, Stdio::piped())?;
+        let status = if verdict.starts_with("accepted") { 0 } else { 1 };
+        let text = String::from_utf8_lossy(&output.stdout);
+        if !text.starts_with(&format!("{verdict}\n")) || output.status.code() != Some(status) {
+            let start: String = text.chars().take(100).collect();
+            return Err(format!("a file at its limits: {start}, expected {verdict}"));
+        }
+    }
+    Ok(cases.len())
+}
+
 pub fn compare_command(program: &Path, data: &Path) -> Result<(), String> {
     let folder = Folder::new()?;
-    let mut count = compare_pairs(program, &folder, data, by_command)?;
-    for (files, verdict) in dense() {
-        let output = run(program, &stored(&folder, 0, files)?.names, Stdio::piped())?;
-        if !String::from_utf8_lossy(&output.stdout).starts_with(&format!("{verdict}\n")) {
-            return Err(format!("a file at its limits: {output:?}, expected {verdict}"));
-        }
-        count += 1;
-    }
-
-    // Any file names: blanks, a line's end, bytes that are no UTF-8, a dash.
-    let a = [fixed::A, "x 1 0 2 0 1 0/o 1 2 0/e 1 0/"].map(|text| text.replace('/', "\n").into_bytes());
-    let names = [&b"--help"[..], b"two\nlines", b"no \xff UTF-8", b" "].map(OsStr::from_bytes);
-    for name in names {
-        let pair = Pair { names: [folder.write(OsStr::new("f"), &a[0])?, folder.write(name, &a[1])?], files: a.clone() };
-        compare(program, "a name of its own", &[pair], by_command)?;
-        count += 1;
-    }
-
-    let good = stored(&folder, 0, a.clone())?.names;
-    let missing = folder.0.join("missing").into_os_string();
-    let place = folder.0.clone().into_os_string();
-    let [f, c] = &good;
-    trouble(program, "no arguments", &[], Stdio::piped())?;
-    trouble(program, "one argument", &[f.clone()], Stdio::piped())?;
-    trouble(program, "three arguments", &[f.clone(), c.clone(), f.clone()], Stdio::piped())?;
-    trouble(program, "no such formula", &[missing.clone(), c.clone()], Stdio::piped())?;
-    trouble(program, "no such certificate in the second pair", &[f.clone(), c.clone(), f.clone(), missing], Stdio::piped())?;
-    trouble(program, "a folder", &[f.clone(), place], Stdio::piped())?;
-    let full = File::options().write(true).open("/dev/full").map_err(|error| error.to_string())?;
-    trouble(program, "no room for the output", &good, full.into())?;
-    println!("command: {count} pairs as the independent checker has them, 7 kinds of trouble with status 2 and nothing printed");
+    let pairs = compare_pairs(program, &folder, data, by_command)? + compare_names(program, &folder)?;
+    let full = compare_dense(program, &folder)?;
+    let kinds = compare_trouble(program, &folder)?;
+    println!("command: {pairs} pairs as the independent checker has them, {full} of the fullest files as worked out by hand");
+    println!("command: {kinds} kinds of trouble with status 2 and nothing printed");
     Ok(())
 }
 
 pub fn compare_example(program: &Path, data: &Path) -> Result<(), String> {
     let folder = Folder::new()?;
-    let count = compare_pairs(program, &folder, data, by_example)?;
-    trouble(program, "no arguments", &[], Stdio::piped())?;
-    trouble(program, "no such file", &["missing".into(), "missing".into()], Stdio::piped())?;
-    println!("C++ example: {count} pairs as the independent checker has them");
+    let pairs = compare_pairs(program, &folder, data, by_example)?;
+    let kinds = compare_trouble(program, &folder)?;
+    println!("C++ example: {pairs} pairs as the independent checker has them, {kinds} kinds of trouble with status 2 and nothing printed");
     Ok(())
 }

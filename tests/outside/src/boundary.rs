@@ -71,21 +71,29 @@ impl Checker for Reference {
     }
 }
 
+/// Places before and behind each table that are not lent.
+const GUARD: usize = 4;
+
+/// The six tables, each with its guards.
 type Stores = [Vec<i32>; 6];
 
 fn lend(stores: &mut Stores) -> [&mut [i32]; 6] {
-    stores.each_mut().map(|store| store.as_mut_slice())
+    stores.each_mut().map(|store| {
+        let end = store.len() - GUARD;
+        &mut store[GUARD..end]
+    })
 }
 
 fn zeros(lengths: [usize; 6]) -> Stores {
-    lengths.map(|length| vec![0; length])
+    lengths.map(|length| vec![0; length + 2 * GUARD])
 }
 
-/// The places beyond the needs that no longer hold what they held.
-fn altered(name: &str, needs: [usize; 6], before: &Stores, after: &Stores) -> Result<(), String> {
+/// Whether the guards, and the places beyond the needs, hold what they held.
+fn unaltered(name: &str, needs: [usize; 6], before: &Stores, after: &Stores) -> Result<(), String> {
     for table in 0..6 {
-        let kept = needs[table].min(before[table].len());
-        if before[table][kept..] != after[table][kept..] {
+        let (old, new) = (&before[table], &after[table]);
+        let kept = GUARD + needs[table].min(old.len() - 2 * GUARD);
+        if old[..GUARD] != new[..GUARD] || old[kept..] != new[kept..] {
             return Err(format!("{name}: table {table} altered beyond its need {}", needs[table]));
         }
     }
@@ -99,7 +107,7 @@ pub struct Tally {
     pub checks: u64,
     /// How often each number was the verdict on a pair, in its own lengths.
     pub numbers: [u64; 16],
-    /// Accepted pairs whose formula's recursive reading was evaluated.
+    /// Accepted checks whose formula's recursive reading was evaluated.
     pub read_false: u64,
     pub lines: u64,
     pub lists: u64,
@@ -110,6 +118,8 @@ pub struct Tally {
 pub struct Comparison {
     stores: Stores,
     last: [Vec<u8>; 2],
+    /// The formula read recursively last, and the answer.
+    read: (Vec<u8>, Option<bool>),
     rng: Rng,
     pub tally: Tally,
 }
@@ -117,7 +127,7 @@ pub struct Comparison {
 impl Comparison {
     pub fn new(seed: u64) -> Comparison {
         let last = [fixed::A, fixed::A_PROOF].map(|text| text.replace('/', "\n").into_bytes());
-        Comparison { stores: Default::default(), last, rng: Rng::new(seed), tally: Tally::default() }
+        Comparison { stores: Default::default(), last, read: (Vec::new(), None), rng: Rng::new(seed), tally: Tally::default() }
     }
 
     fn rubbish(&mut self) -> i32 {
@@ -134,8 +144,8 @@ impl Comparison {
     fn handed_on(&mut self, lengths: [usize; 6]) -> Stores {
         let mut stores = std::mem::take(&mut self.stores);
         for (store, length) in stores.iter_mut().zip(lengths) {
-            store.truncate(length);
-            while store.len() < length {
+            store.truncate(length + 2 * GUARD);
+            while store.len() < length + 2 * GUARD {
                 store.push(self.rubbish());
             }
         }
@@ -154,7 +164,30 @@ impl Comparison {
         })
     }
 
-    /// One check in these tables, all fields and all places compared.
+    fn in_rubbish(&mut self, lengths: [usize; 6]) -> Stores {
+        lengths.map(|length| (0..length + 2 * GUARD).map(|_| self.rubbish()).collect())
+    }
+
+    /// The formula of an accepted check is false, if it is small enough to be
+    /// read recursively.
+    fn reads_false(&mut self, name: &str, formula: &[u8], report: &Report) -> Result<(), String> {
+        if report.verdict.number != 0 {
+            return Ok(());
+        }
+        if self.read.0 != formula {
+            self.read = (formula.to_vec(), reference::is_false(formula));
+        }
+        match self.read.1 {
+            Some(false) => Err(format!("{name}: accepted, and its formula is true")),
+            Some(true) => {
+                self.tally.read_false += 1;
+                Ok(())
+            }
+            None => Ok(()),
+        }
+    }
+
+    /// One check in these tables: all fields, all places and both files.
     fn compare_in(
         &mut self,
         checker: &mut dyn Checker,
@@ -164,20 +197,24 @@ impl Comparison {
         stores: &mut Stores,
     ) -> Result<(), String> {
         let before = stores.clone();
+        let copies = files.map(<[u8]>::to_vec);
         let found = checker.check(files[0], files[1], lend(stores));
         let expected = report.verdict.fields();
         if found != expected {
-            let lengths = before.map(|store| store.len());
+            let lengths = before.map(|store| store.len() - 2 * GUARD);
             return Err(format!("{name}: verdict {found:?}, expected {expected:?}, lengths {lengths:?}"));
         }
+        if files[0] != copies[0] || files[1] != copies[1] {
+            return Err(format!("{name}: a file was altered"));
+        }
         self.tally.checks += 1;
-        altered(name, report.needs, &before, stores)
+        self.reads_false(name, files[0], report)?;
+        unaltered(name, report.needs, &before, stores)
     }
 
     /// One pair, three ways: in tables of zeros, straight after another
     /// certificate in the same tables, and in tables of random contents and
-    /// lengths. Lines' bytes are compared as well, and the formula of an
-    /// accepted pair is read recursively if it is small.
+    /// lengths. Lines' bytes are compared as well.
     pub fn pair(
         &mut self,
         checker: &mut dyn Checker,
@@ -185,33 +222,47 @@ impl Comparison {
         files: [&[u8]; 2],
         lengths: [usize; 6],
     ) -> Result<Report, String> {
-        let [formula, certificate] = files;
         let lengths = lengths.map(|length| length.min(1 << 20));
-        let report = reference::check(formula, certificate, lengths);
+        let report = reference::check(files[0], files[1], lengths);
         self.compare_in(checker, &format!("{name}, in zeros"), files, &report, &mut zeros(lengths))?;
-
-        let mut stores = self.handed_on(lengths);
-        checker.check(&self.last[0], &self.last[1], lend(&mut stores));
-        self.compare_in(checker, &format!("{name}, after another"), files, &report, &mut stores)?;
-        self.stores = stores;
-        self.last = [formula.to_vec(), certificate.to_vec()];
+        self.after_another(checker, name, files, lengths, &report)?;
 
         let others = self.random_lengths(report.needs);
-        let other = reference::check(formula, certificate, others);
-        let mut stores = others.map(|length| (0..length).map(|_| self.rubbish()).collect());
+        let other = reference::check(files[0], files[1], others);
+        let mut stores = self.in_rubbish(others);
         self.compare_in(checker, &format!("{name}, in rubbish"), files, &other, &mut stores)?;
 
         self.lines(checker, name, files, &report)?;
-        if report.verdict.number == 0 {
-            match reference::is_false(formula) {
-                Some(false) => return Err(format!("{name}: accepted, and its formula is true")),
-                Some(true) => self.tally.read_false += 1,
-                None => {}
-            }
-        }
         self.tally.pairs += 1;
         self.tally.numbers[report.verdict.number as usize] += 1;
         Ok(report)
+    }
+
+    /// The pair before this one and then this one, in the same tables, which
+    /// hold what earlier checks left: of this pair's lengths, or long enough
+    /// for both.
+    fn after_another(
+        &mut self,
+        checker: &mut dyn Checker,
+        name: &str,
+        files: [&[u8]; 2],
+        lengths: [usize; 6],
+        report: &Report,
+    ) -> Result<(), String> {
+        let last = std::mem::replace(&mut self.last, files.map(<[u8]>::to_vec));
+        let mut lengths = lengths;
+        if self.rng.chance(1, 2) {
+            let needs = reference::check(&last[0], &last[1], reference::ENDLESS).needs;
+            lengths = std::array::from_fn(|table| lengths[table].max(needs[table]).max(report.needs[table]));
+        }
+        let mut stores = self.handed_on(lengths);
+        let another = [last[0].as_slice(), last[1].as_slice()];
+        for (name, files) in [(format!("before {name}"), another), (format!("{name}, after another"), files)] {
+            let report = reference::check(files[0], files[1], lengths);
+            self.compare_in(checker, &name, files, &report, &mut stores)?;
+        }
+        self.stores = stores;
+        Ok(())
     }
 
     fn lines(&mut self, checker: &mut dyn Checker, name: &str, files: [&[u8]; 2], report: &Report) -> Result<(), String> {
@@ -342,25 +393,26 @@ impl Comparison {
         lengths: [usize; 6],
         results: usize,
     ) -> Result<(), String> {
-        let mut stores: Stores = lengths.map(|length| (0..length).map(|_| self.rubbish()).collect());
+        let mut stores = self.in_rubbish(lengths);
         let before = stores.clone();
-        let mut out: Vec<u32> = (0..results).map(|_| self.rubbish() as u32).collect();
+        let mut out: Vec<u32> = (0..results + 2 * GUARD).map(|_| self.rubbish() as u32).collect();
         let (mut expected, mut needs) = (out.clone(), [0; 6]);
         for (index, [formula, certificate]) in pairs_in(bytes, ends).into_iter().enumerate() {
             let report = reference::check(formula, certificate, lengths);
-            for (place, field) in expected.iter_mut().skip(7 * index).zip(report.verdict.fields()) {
+            self.reads_false(name, formula, &report)?;
+            for (place, field) in expected[GUARD..GUARD + results].iter_mut().skip(7 * index).zip(report.verdict.fields()) {
                 *place = field as u32;
             }
             for table in 0..6 {
                 needs[table] = needs[table].max(report.needs[table]);
             }
         }
-        checker.check_all(bytes, ends, lend(&mut stores), &mut out);
+        checker.check_all(bytes, ends, lend(&mut stores), &mut out[GUARD..GUARD + results]);
         if out != expected {
             return Err(format!("{name}: {out:?}, expected {expected:?}"));
         }
         self.tally.lists += 1;
-        altered(name, needs, &before, &stores)
+        unaltered(name, needs, &before, &stores)
     }
 }
 

@@ -1475,10 +1475,12 @@ pub fn damaged(rng: &mut Rng, formula: &[u8], certificate: &[u8]) -> (Vec<u8>, V
         2 | 3 => damage_tokens(rng, &mut certificate_lines),
         4 | 5 => damage_lines(rng, &mut certificate_lines),
         6 => bytes = true,
-        _ => {
+        _ => loop {
             let number = 2 + rng.below(13);
-            aim(rng, number, &mut formula_lines, &mut certificate_lines);
-        }
+            if aim(rng, number, &mut formula_lines, &mut certificate_lines).is_some() {
+                break;
+            }
+        },
     }
     let (mut formula, mut certificate) = (render(rng, &formula_lines), render(rng, &certificate_lines));
     if bytes {

@@ -762,7 +762,7 @@ pub fn line_bytes(formula: &[u8], certificate: &[u8], file: i64, line: i64) -> (
 }
 
 /// The recursive reading of the quantifiers: `None` if the formula is
-/// refused, or has more prefix variables than one would want to try out.
+/// refused, or has more than 16 prefix variables.
 pub fn is_false(formula: &[u8]) -> Option<bool> {
     let formula = parse_formula(formula)?;
     if formula.prefix.len() > 16 {

@@ -268,6 +268,18 @@ fn harness_catches_wrong_checkers() {
         // One place beyond the need is written.
         Wrong { check: |_, tables, needs| if let Some(place) = tables[5].get_mut(needs[5]) { *place ^= 1 }, ..RIGHT },
         Wrong { check: |_, tables, needs| if let Some(place) = tables[0].get_mut(needs[0]) { *place ^= 1 }, ..RIGHT },
+        // A mark left in a counted place makes the next check accept.
+        Wrong {
+            check: |fields, tables, needs| {
+                if needs[0] > 0 && !tables[0].is_empty() {
+                    if tables[0][0] == 77_777_777 {
+                        *fields = [0; 7];
+                    }
+                    tables[0][0] = 77_777_777;
+                }
+            },
+            ..RIGHT
+        },
         // What the tables held enters the verdict.
         Wrong { check: |fields, tables, _| fields[4] += u64::from(tables[1].last().is_some_and(|n| *n == i32::MAX)), ..RIGHT },
         // The first verdict is echoed; a result is lost; a number is written too far.
