@@ -164,11 +164,24 @@ e -1 2 0
 e -3 0
 e -2 0
 0""".split("\n"))
-    # The example of the DRAT-trim paper and its web page (four variables,
-    # eight clauses, unsatisfiable), with its DRUP and its DRAT proof.
-    # Typed from memory: the clauses are checked to be unsatisfiable below.
+    # Figure 3.3 of source document 002, which is the example of the
+    # DRAT-trim paper: the formula, a DRAT proof, the same with deletions.
     four = [[1, 2, -3], [-1, -2, 3], [2, 3, -4], [-2, -3, 4], [-1, -3, -4], [1, 3, 4], [-1, 2, 4], [1, -2, -4]]
     assert cadical(4, four) is not None
+    existential("figure-3-3-b", 4, four, ["-1 0", "2 0", "0"])
+    existential("figure-3-3-c", 4, four,
+                ["-1 0", "d -1 -2 3 0", "d -1 -3 -4 0", "d -1 2 4 0", "2 0", "d 1 2 -3 0", "d 2 3 -4 0", "0"])
+    # Figure 3.2 there: an AT clause, and one that is RAT on its literal -1.
+    # The formula is true, so nothing closes. The text says that the second is
+    # RAT on 3 too; it is not: the resolvent with -2 -3 is -1 -2, and with 1
+    # and 2 true propagation makes 3 false and is stable (1, 2, not 3 is a
+    # model).
+    three = [[1, 2], [2, 3], [-2, -3]]
+    existential("figure-3-2-at", 3, three, ["1 -3 0"], expected="refused,14,2,0,3,1,0")
+    existential("figure-3-2-rat", 3, three, ["-1 3 0"], expected="refused,14,2,0,3,1,0")
+    existential("figure-3-2-no-rat", 3, three, ["3 -1 0"], expected="refused,12,2,6,3,0,0")
+    # Other proofs of the same formula, typed from memory of the paper's web
+    # page, and variants.
     existential("drat-trim-drup", 4, four,
                 ["1 2 0", "d 1 2 -3 0", "1 0", "d 1 2 0", "d 1 3 4 0", "d 1 -2 -4 0", "2 0", "0"])
     existential("drat-trim-rat", 4, four, ["-1 0", "d -1 2 4 0", "2 0", "0"])
