@@ -1,7 +1,7 @@
 /* Hutsvida: a proved checker of FERAT certificates, for callers in C and C++.
  *
- * `rt staticlib ferat_c` proves the library and writes target/staticlib/libferat_c.a (x86-64 Linux). The words in capitals
- * are document 01's; the promises are in crates/ferat_c, crates/ferat/specs/Check.antt and crates/checks/specs/All.antt.
+ * `rt staticlib ferat_c` proves the library and writes target/staticlib/libferat_c.a (x86-64 Linux). The promises are in
+ * crates/ferat_c, crates/ferat/specs/Check.antt and crates/checks/specs/All.antt.
  *
  * Every call takes all inputs, ends, and writes only to what it is lent for writing. What is lent for writing overlaps nothing
  * else that is lent to the same call. A pointer with length 0 is not read, but is not null. The calls keep nothing between
