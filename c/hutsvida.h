@@ -1,11 +1,11 @@
 /* Hutsvida: a proved checker of FERAT certificates, for callers in C and C++.
  *
  * `rt staticlib ferat_c` proves the library and writes target/staticlib/libferat_c.a (x86-64 Linux). The promises are in
- * crates/ferat_c, crates/ferat/specs/Check.antt and crates/checks/specs/All.antt.
+ * crates/ferat_c, crates/tables/specs/Checked.antt and crates/checks/specs (Runs.antt, All.antt).
  *
  * Every call takes all inputs, ends, and writes only to what it is lent for writing. What is lent for writing overlaps nothing
  * else that is lent to the same call. A pointer with length 0 is not read, but is not null. The calls keep nothing between
- * them: calls on different tables may run side by side. The two checks take about 2.2 MiB of stack. */
+ * them: calls on different tables may run side by side. The two checks take about 1.7 MiB of stack. */
 #ifndef HUTSVIDA_H
 #define HUTSVIDA_H
 

@@ -1,5 +1,5 @@
 //! The three calls of the proved library (crate `ferat_c`), for Rust. The two
-//! checks take about 2.2 MiB of stack: more than a thread has by default.
+//! checks take about 1.7 MiB of stack: most of what a thread has by default.
 
 use std::os::raw::c_uint;
 

@@ -21,7 +21,7 @@ const LONGEST: u64 = 1_048_576;
 /// the next; for each mark a line's zero and byte 10; the copies.
 const PLACES: [usize; 6] = [4_096, 524_288, 524_288, 524_288, 524_288, 16_384];
 
-/// The call takes about 2.2 MiB.
+/// The call takes about 1.7 MiB.
 const STACK: usize = 16 << 20;
 
 /// Document 01's words for the numbers.

@@ -1,16 +1,16 @@
 -- Laws of reading and writing a place, stated once for all six tables. Assumes nothing.
 use mathlib.Core.Path.{_≡_, refl, ap, sym, _∙_}
-use mathlib.Core.List.{List, [], _∷_, map}
+use mathlib.Core.List.{List, [], _∷_}
 use mathlib.Core.Bool.{Bool, true, false, cond}
 use mathlib.Core.Logic.{_≢_}
 use Prim.Native.Nat.{ℕ, zero, suc, _<_, _≤_, _+_, _-_, _%_}
 use native.Mathlib.Omega.{arith}
 use native.Mathlib.Numerals.{add-one}
 use lib.ListN.{drop, drop-of-length-le, getD, set, length, length-set, length-map, List·getD-eq-default, List·getD-map}
-use lib.Seq.{getD-set-same, getD-set-other, drop-drop, getD-drop, drop-cons}
+use lib.Seq.{getD-set-same, getD-set-other, drop-drop, drop-cons}
 use lib.IntN.{ℤ, pos, negsuc, natAbs}
 use lib.Signed.{leZ, nonNeg}
-use lib.Dec.{T, eqb, leb}
+use lib.Dec.{T, leb}
 use borrow.Author.Tests.{leb-true, leb-false, eq-eqb, ne-eqb}
 use mir.Syntax.{w32}
 use mir.Val.{Fits, SFits, toZ, ofZ}
@@ -76,16 +76,6 @@ codes-length t = length-map t (λ z. num z % 65536)
 pub codes-at : (t : List ℤ) (i : ℕ) → getD (codesOf t) i 0 ≡ codeAt t i
 unfolding codesOf codeAt cellAt
 codes-at t i = List·getD-map (λ z. num z % 65536) t i (pos 0)
-
-pub codes-small : (t : List ℤ) (i : ℕ) → getD (codesOf t) i 0 < 65536
-unfolding codeAt
-codes-small t i = let e = codes-at t i in omega arith
-
-pub codes-set : (t : List ℤ) (i : ℕ) (z : ℤ) → codesOf (set t i z) ≡ set (codesOf t) i (num z % 65536)
-unfolding codesOf
-codes-set [] i z = refl
-codes-set (x ∷ t) zero z = refl
-codes-set (x ∷ t) (suc i) z = ap (λ (l : List ℕ). (num x % 65536) ∷ l) (codes-set t i z)
 
 -- a list at a place: nothing at a 0 and past the end, else a code and the list after it
 module _ (t : List ℤ) (i : ℕ) where

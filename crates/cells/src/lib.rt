@@ -1,9 +1,16 @@
 // The places of a table of 32-bit signed numbers, read and written as natural numbers.
 ghost use mathlib.Core.Path.{_≡_};
-ghost use Prim.Native.Nat.{ℕ, _%_, _<_};
+ghost use Prim.Native.Nat.{_%_, _<_, max};
 ghost use lib.ListN.{set};
-ghost use lib.IntN.{ℤ, pos};
+ghost use lib.IntN.{pos};
 ghost use Rattle.cells.specs.Cells.{cellAt, codeAt};
+
+// A number as an index.
+pub fn wide(x: u32) -> usize
+    ensures { λ r. ⌜ (r ≡ x) × (r < 4294967296) ⌝ }
+{
+    x as usize
+}
 
 // The number at a place: 0 for a negative one, and past the end.
 pub fn cell(t: &[i32], i: usize) -> u32
@@ -32,4 +39,14 @@ pub fn code(t: &[i32], i: usize) -> u32
     ensures { λ r. ⌜ (r ≡ codeAt (now (t .entry)) i) × (r < 65536) ⌝ }
 {
     cell(t, i) % 65536
+}
+
+// The larger of two numbers.
+pub fn larger(a: u32, b: u32) -> u32
+    ensures { λ r. ⌜ r ≡ max a b ⌝ }
+{
+    if a < b {
+        return b;
+    }
+    a
 }

@@ -2,11 +2,11 @@
 use mathlib.Core.Path.{_≡_, refl}
 use mathlib.Core.List.{List, [], _∷_}
 use Prim.Native.Nat.{ℕ}
-use Rattle.ferat.specs.Check.{Job}
+use Rattle.checks.specs.Runs.{ferat, Job}
 use Rattle.checks.specs.All.{part, jobsFrom, jobsOf, over}
 
 abbrev job : List ℕ → List ℕ → Job
-job f c = record { formula = f; certificate = c }
+job f c = record { kind = ferat; formula = f; certificate = c }
 
 -- two checks: a certificate whose end lies below its formula's, and one whose end lies beyond the bytes; the fifth end is left alone
 clamped-ends : jobsOf (5 ∷ 6 ∷ 7 ∷ []) (2 ∷ 1 ∷ 2 ∷ 9 ∷ 9 ∷ []) ≡ job (5 ∷ 6 ∷ []) [] ∷ job [] (7 ∷ []) ∷ []

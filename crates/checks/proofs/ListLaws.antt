@@ -8,12 +8,13 @@ use lib.ListN.{length, take, drop, getD, set, length-drop, length-append, length
 use lib.Seq.{sets, drop-cons}
 use Rattle.rules.specs.declared.Report.{Report}
 use Rattle.report.specs.Fields.{sevenOf}
-use Rattle.ferat.specs.Tables.{Tables, lengthsOf}
-use Rattle.ferat.specs.Check.{CheckedIn, Job, Runs, none, more}
-use Rattle.ferat.proofs.Frames.{same-lengths}
-use Rattle.ferat.proofs.Runs.{demand-3}
+use Rattle.tables.specs.Tables.{Tables, lengthsOf}
+use Rattle.tables.proofs.Frames.{same-lengths}
+use Rattle.ferat.specs.Check.{CheckedIn}
+use Rattle.checks.specs.Runs.{Job, Runs, none, more}
 use Rattle.checks.specs.All.{clamped, part, jobIn, jobsFrom, jobsOf, numbersOf, over, CheckedAll}
 use Rattle.checks.specs.One.{One}
+use Rattle.checks.proofs.Runs.{demand-3}
 
 -- a run followed by a run is a run
 pub runs-then : {js ks : List Job} {t u w : Tables} {rs qs : List Report} → Runs js t rs u → Runs ks u qs w → Runs (js ++ ks) t (rs ++ qs) w

@@ -5,8 +5,8 @@ use Prim.Native.Nat.{ℕ, _-_, min, max}
 use lib.ListN.{length, take, drop}
 use Rattle.rules.specs.declared.Report.{Report}
 use Rattle.report.specs.Fields.{sevenOf}
-use Rattle.ferat.specs.Tables.{Tables}
-use Rattle.ferat.specs.Check.{Job, Runs, Demanded, Each}
+use Rattle.tables.specs.Tables.{Tables}
+use Rattle.checks.specs.Runs.{ferat, Job, Runs, Demanded, Each}
 
 -- an end below the one before it counts as that one, an end above the bytes' length as that length
 abbrev pub clamped : ℕ → ℕ → ℕ → ℕ
@@ -18,7 +18,7 @@ part from to bytes = take (to - from) (drop from bytes)
 
 -- the two files that stand from `from` to `middle` and from there to `to`
 abbrev pub jobIn : List ℕ → ℕ → ℕ → ℕ → Job
-jobIn bytes from middle to = record { formula = part from middle bytes; certificate = part middle to bytes }
+jobIn bytes from middle to = record { kind = ferat; formula = part from middle bytes; certificate = part middle to bytes }
 
 -- the checks from a place of the bytes on: the end of a formula, the end of its certificate, ..; an odd last end is left alone
 unfoldable pub jobsFrom : List ℕ → ℕ → List ℕ → List Job
@@ -43,8 +43,7 @@ over [] (n ∷ ns) = []
 over (o ∷ out) (n ∷ ns) = n ∷ over out ns
 
 -- THE PROMISE OF A LIST OF CHECKS, t being the tables before and u after, `out` and `exit` the results' slice: each check of the list
--- is run in the tables that the one before it left, its report is written, "every formula accepted in it is false, .. and each verdict
--- is, in all seven fields, the one that a single check gives in tables of zeros of the same sizes"
+-- is run in the tables that the one before it left, its report is written, and demand 3 holds of each
 pub record CheckedAll (bytes ends : List ℕ) (t : Tables) (out : List ℕ) (u : Tables) (exit : List ℕ) : Type 0 where
   pub reports : List Report
   pub runs : Runs (jobsOf bytes ends) t reports u

@@ -5,7 +5,7 @@ use Prim.Native.Nat.{ℕ}
 use lib.Seq.{sets}
 use Rattle.rules.specs.declared.Report.{Report}
 use Rattle.report.specs.Fields.{sevenOf}
-use Rattle.ferat.specs.Tables.{Tables}
+use Rattle.tables.specs.Tables.{Tables}
 use Rattle.ferat.specs.Check.{CheckedIn}
 use Rattle.checks.specs.All.{part}
 

@@ -1,22 +1,23 @@
 // A list of checks, one after the other in the same six tables.
 ghost use mathlib.Core.Path.{_≡_};
 ghost use Prim.Native.Nat.{_+_, _≤_, _<_, _^_};
-ghost use lib.ListN.{length, set};
+ghost use lib.ListN.{length, getD, set};
 ghost use lib.Seq.{sets};
-ghost use Rattle.ferat.specs.Tables.{tables};
+ghost use Rattle.tables.specs.Tables.{six};
 ghost use Rattle.checks.specs.All.{clamped, CheckedAll};
 ghost use Rattle.checks.specs.One.{One};
 
-// An end that counts as `low` if it lies below, as `high` if it lies above.
-fn clamp(low: usize, high: usize, end: usize) -> usize
-    requires { ⌜ low ≤ high ⌝ }
-    ensures { λ r. ⌜ r ≡ clamped low high end ⌝ }
+// An end of the list, which counts as `low` if it lies below, as the bytes' length if it lies above.
+fn end_at(bytes: &[u8], ends: &[usize], i: usize, low: usize) -> usize
+    requires { ⌜ (i < length (now ends)) × (low ≤ length (now bytes)) ⌝ }
+    ensures { λ r. ⌜ r ≡ clamped low (length (now (bytes .entry))) (getD (now (ends .entry)) i 0) ⌝ }
 {
+    let end = ends[i];
     if end < low {
         return low;
     }
-    if high < end {
-        return high;
+    if bytes.len() < end {
+        return bytes.len();
     }
     end
 }
@@ -58,7 +59,9 @@ fn check_one(
     at: usize,
 )
     requires { ⌜ (from ≤ middle) × (middle ≤ to) × (to ≤ length (now bytes)) × (at + 7 < 2 ^ 64) ⌝ }
-    ensures { λ _. ⌜ One (now (bytes .entry)) from middle to (tables (now (prefix .entry)) (now (matrix .entry)) (now (map .entry)) (now (proof .entry)) (now (marks .entry)) (now (values .entry))) (now (out .entry)) at (tables (now (prefix .exit)) (now (matrix .exit)) (now (map .exit)) (now (proof .exit)) (now (marks .exit)) (now (values .exit))) (now (out .exit)) ⌝ }
+    ensures { λ _. ⌜ One (now (bytes .entry)) from middle to
+        (six (prefix .entry) (matrix .entry) (map .entry) (proof .entry) (marks .entry) (values .entry)) (now (out .entry)) at
+        (six (prefix .exit) (matrix .exit) (map .exit) (proof .exit) (marks .exit) (values .exit)) (now (out .exit)) ⌝ }
 {
     let r = ferat::check(
         &bytes[from..middle],
@@ -86,14 +89,16 @@ pub fn check_all(
     values: &mut [i32],
     out: &mut [u32],
 )
-    ensures { λ _. ⌜ CheckedAll (now (bytes .entry)) (now (ends .entry)) (tables (now (prefix .entry)) (now (matrix .entry)) (now (map .entry)) (now (proof .entry)) (now (marks .entry)) (now (values .entry))) (now (out .entry)) (tables (now (prefix .exit)) (now (matrix .exit)) (now (map .exit)) (now (proof .exit)) (now (marks .exit)) (now (values .exit))) (now (out .exit)) ⌝ }
+    ensures { λ _. ⌜ CheckedAll (now (bytes .entry)) (now (ends .entry))
+        (six (prefix .entry) (matrix .entry) (map .entry) (proof .entry) (marks .entry) (values .entry)) (now (out .entry))
+        (six (prefix .exit) (matrix .exit) (map .exit) (proof .exit) (marks .exit) (values .exit)) (now (out .exit)) ⌝ }
 {
     let mut from = 0;
     let mut i = 0;
     let mut at = 0;
     while i + 1 < ends.len() {
-        let middle = clamp(from, bytes.len(), ends[i]);
-        let to = clamp(middle, bytes.len(), ends[i + 1]);
+        let middle = end_at(bytes, ends, i, from);
+        let to = end_at(bytes, ends, i + 1, middle);
         check_one(
             bytes,
             from,

@@ -1,18 +1,23 @@
--- What each `return` of the code gives, from what was read before it. Assumes nothing.
-use mathlib.Core.Path.{_≡_, refl, ap, ap₂, sym, subst, _∙_}
+-- What each `return` and each turn of the code gives, from what was read before it. Assumes nothing.
+use mathlib.Core.Path.{_≡_, refl, ap, ap₂, sym, _∙_}
 use mathlib.Core.Bool.{Bool, true, false, cond, not, _&&_}
-use mathlib.Core.List.{List, [], _∷_}
-use Prim.Native.Nat.{ℕ, _+_, _/_}
+use mathlib.Core.List.{List, [], _∷_, _++_, map}
+use Prim.Native.Nat.{ℕ, _+_, _-_, _/_, _<_, _≤_}
+use native.Mathlib.Omega.{arith}
+use lib.Dec.{eqb}
 use lib.IntN.{ℤ}
-use Rattle.lines.specs.Lists.{all}
+use lib.ListN.{length, getD}
+use borrow.Author.Tests.{eq-eqb, ne-eqb}
+use Rattle.lines.specs.Lists.{all, keep}
 use Rattle.cells.specs.Cells.{listAt, codeAt}
+use Rattle.cells.proofs.Laws.{list-past}
 use Rattle.rules.specs.Basics.{isIn}
 use Rattle.rules.specs.Codes.{flip}
-use Rattle.rules.proofs.Kit.{in-all, in-any, eqb-self}
-use Rattle.prefix.specs.Prefix.{isUniversal, isExistential, dependency, nested}
-use Rattle.expansion.specs.Marks.{Marked}
-use Rattle.expansion.specs.Codes.{standsOf, annotationAt, annotationOf, imageOf, imagesOf, oneSigned, dependentIn, negationIn, inClause, firstIn, inLine, literalsFit, further, rightmost, agrees, agreed, annotationsFit, expandsCodes}
+use Rattle.prefix.specs.Prefix.{isUniversal, isExistential, dependency}
+use Rattle.expansion.specs.Marks.{listed, joined, adding}
+use Rattle.expansion.specs.Codes.{annotationAt, annotationOf, imageOf, imagesOf, alone, apart, annotationsOf, negations, partSize, isPart, inClause, firstIn, inLine, literalsFit, leastOf, copyFits, annotationsFit, expandsCodes}
 use Rattle.expansion.proofs.Walks.{stop, more}
+use Rattle.expansion.proofs.HeldLaws.{listed-none, listed-down, listed-length, joined-append, joined-twice}
 
 module _ {A : Type 0} (b : Bool) (x y : A) where
   yes : {r : A} → b ≡ true → r ≡ x → r ≡ cond b x y
@@ -21,32 +26,7 @@ module _ {A : Type 0} (b : Bool) (x y : A) where
   no : {r : A} → b ≡ false → r ≡ y → r ≡ cond b x y
   no p q = q ∙ sym (ap (λ t. cond t x y) p)
 
-module _ (w : ℕ → ℕ) (zs : List ℕ) (y : ℕ) where
-  pub one-yes : {k : ℕ} {r : Bool} → isUniversal w (y / 2) ≡ true → k ≡ flip y → r ≡ isIn zs k → not r ≡ oneSigned w zs y
-  unfolding oneSigned
-  one-yes p k q = yes (isUniversal w (y / 2)) (not (isIn zs (flip y))) true p (ap not (q ∙ ap (isIn zs) k))
-
-  pub one-no : isUniversal w (y / 2) ≡ false → true ≡ oneSigned w zs y
-  unfolding oneSigned
-  one-no p = no (isUniversal w (y / 2)) (not (isIn zs (flip y))) true p refl
-
-  module _ (e : ℕ) where
-    pub dependent-yes : {r : Bool} → dependency w e (y / 2) ≡ true → r ≡ isIn zs y → r ≡ dependentIn w e zs y
-    unfolding dependentIn
-    dependent-yes p q = yes (dependency w e (y / 2)) (isIn zs y) true p q
-
-    pub dependent-no : dependency w e (y / 2) ≡ false → true ≡ dependentIn w e zs y
-    unfolding dependentIn
-    dependent-no p = no (dependency w e (y / 2)) (isIn zs y) true p refl
-
-    pub negation-yes : {k : ℕ} {r : Bool} → dependency w e (y / 2) ≡ true → k ≡ flip y → r ≡ isIn zs k → r ≡ negationIn w e zs y
-    unfolding negationIn
-    negation-yes p k q = yes (dependency w e (y / 2)) (isIn zs (flip y)) true p (q ∙ ap (isIn zs) k)
-
-    pub negation-no : dependency w e (y / 2) ≡ false → true ≡ negationIn w e zs y
-    unfolding negationIn
-    negation-no p = no (dependency w e (y / 2)) (isIn zs (flip y)) true p refl
-
+-- THE LITERALS
 module _ (w st : ℕ → ℕ) (cs : List ℕ) (x : ℕ) {v : ℕ} (s : v ≡ st (x / 2)) where
   pub clause-yes : {k : ℕ} {r : Bool} → isExistential w v ≡ true → k ≡ imageOf st x → r ≡ isIn cs k → r ≡ inClause w st cs x
   unfolding inClause
@@ -76,139 +56,202 @@ module _ (w st : ℕ → ℕ) (ls : List ℕ) (y : ℕ) where
   line-no p = no (isExistential w (y / 2)) (isIn (imagesOf st ls) y) true p refl
 
 module _ (w st : ℕ → ℕ) (ls cs : List ℕ) where
-  pub fit-1 : all (inClause w st cs) ls ≡ false → false ≡ literalsFit w st ls cs
+  pub fit-no : all (inClause w st cs) ls ≡ false → false ≡ literalsFit w st ls cs
   unfolding literalsFit
-  fit-1 a = no (all (inClause w st cs) ls) (cond (all (inLine w st ls) cs) (all (oneSigned w cs) cs) false) false a refl
+  fit-no a = no (all (inClause w st cs) ls) (all (inLine w st ls) cs) false a refl
 
-  pub fit-2 : all (inClause w st cs) ls ≡ true → all (inLine w st ls) cs ≡ false → false ≡ literalsFit w st ls cs
+  pub fit-yes : {r : Bool} → all (inClause w st cs) ls ≡ true → r ≡ all (inLine w st ls) cs → r ≡ literalsFit w st ls cs
   unfolding literalsFit
-  fit-2 a b =
-      yes (all (inClause w st cs) ls) (cond (all (inLine w st ls) cs) (all (oneSigned w cs) cs) false) false a
-      (no (all (inLine w st ls) cs) (all (oneSigned w cs) cs) false b refl)
-
-  pub fit-3 : {r : Bool} → all (inClause w st cs) ls ≡ true → all (inLine w st ls) cs ≡ true → r ≡ all (oneSigned w cs) cs
-      → r ≡ literalsFit w st ls cs
-  unfolding literalsFit
-  fit-3 a b q =
-      yes (all (inClause w st cs) ls) (cond (all (inLine w st ls) cs) (all (oneSigned w cs) cs) false) false a
-      (yes (all (inLine w st ls) cs) (all (oneSigned w cs) cs) false b q)
+  fit-yes a q = yes (all (inClause w st cs) ls) (all (inLine w st ls) cs) false a q
 
   -- a line whose first literal is not in the clause does not fit
   pub first-unfit : firstIn w st cs ls ≡ false → literalsFit w st ls cs ≡ false
   unfolding firstIn
-  first-unfit h = sym (fit-1 (head ls h))
+  first-unfit h = sym (fit-no (head ls h))
     where
       head : (ls : List ℕ) → firstIn w st cs ls ≡ false → all (inClause w st cs) ls ≡ false
       head [] h = h
       head (x ∷ ls) h = ap (λ b. b && all (inClause w st cs) ls) h
 
-module _ (w st : ℕ → ℕ) (p x : ℕ) {a b : ℕ} (ha : a ≡ st (p / 2)) (hb : b ≡ st (x / 2)) where
-  pub further-yes : nested w a b ≡ true → x ≡ further w st p x
-  unfolding further
-  further-yes h = yes (nested w (st (p / 2)) (st (x / 2))) x p (ap₂ (nested w) (sym ha) (sym hb) ∙ h) refl
+-- THE LEAST t. The walk that adds codes
+module _ (t whole : List ℕ) (m : List ℤ) (i : ℕ) {r : ℕ} (e : r ≡ codeAt m i) (inv : joined t (listAt m i) ≡ whole) where
+  pub join-stop : r ≡ 0 → t ≡ whole
+  unfolding joined
+  join-stop z = sym (ap (joined t) (stop m i e z)) ∙ inv
 
-  pub further-no : nested w a b ≡ false → p ≡ further w st p x
-  unfolding further
-  further-no h = no (nested w (st (p / 2)) (st (x / 2))) x p (ap₂ (nested w) (sym ha) (sym hb) ∙ h) refl
+  pub join-turn : (r ≡ 0 → ⊥) → {u : List ℕ} → u ≡ adding t r → joined u (listAt m (i + 1)) ≡ whole
+  unfolding joined
+  join-turn z q = ap (λ (l : List ℕ). joined l (listAt m (i + 1))) q ∙ sym (ap (joined t) (more m i e z)) ∙ inv
 
-module _ (w st : ℕ → ℕ) (p : ℕ) (t : List ℤ) (i : ℕ) {x : ℕ} (e : x ≡ codeAt t i) where
-  pub rightmost-stop : x ≡ 0 → rightmost w st p (listAt t i) ≡ p
-  unfolding rightmost
-  rightmost-stop z = ap (rightmost w st p) (stop t i e z)
+pub join-past : (t : List ℕ) (m : List ℤ) → joined t (listAt m (length m)) ≡ t
+unfolding joined
+join-past t m = ap (joined t) (list-past m (length m) (omega arith))
 
-  pub rightmost-next : {q : ℕ} → (x ≡ 0 → ⊥) → q ≡ further w st p x → rightmost w st q (listAt t (i + 1)) ≡ rightmost w st p (listAt t i)
-  unfolding rightmost
-  rightmost-next z h = ap (λ k. rightmost w st k (listAt t (i + 1))) h ∙ sym (ap (rightmost w st p) (more t i e z))
-
--- what is in a list passes: each element is in it
-dependent-self : (w : ℕ → ℕ) (e : ℕ) (zs : List ℕ) → all (dependentIn w e zs) zs ≡ true
-unfolding dependentIn
-dependent-self w e zs = in-all (dependentIn w e zs) zs (λ y m. go (dependency w e (y / 2)) (in-any (λ z. lib.Dec.eqb y z) m (eqb-self y)))
-  where
-    go : (b : Bool) {i : Bool} → i ≡ true → cond b i true ≡ true
-    go true h = h
-    go false h = refl
-
--- the marks of an annotation, by its copy and by its place
-module _ (s : List ℕ) (vs mp : List ℤ) (p : ℕ) {b : ℕ} (h : b ≡ annotationAt vs mp p) where
-  pub marked-place : Marked s (annotationOf vs mp p) → Marked s (listAt mp b)
-  unfolding annotationOf
-  marked-place m = subst (λ (n : ℕ). Marked s (listAt mp n)) (sym h) m
-
-  pub marked-copy : Marked s (listAt mp b) → Marked s (annotationOf vs mp p)
-  unfolding annotationOf
-  marked-copy m = subst (λ (n : ℕ). Marked s (listAt mp n)) h m
-
-module _ (w : ℕ → ℕ) (vs mp : List ℤ) (p x : ℕ) {a b : ℕ} (ha : a ≡ annotationAt vs mp (x / 2)) (hb : b ≡ annotationAt vs mp (p / 2)) where
-  abbrev st : ℕ → ℕ
-  st = standsOf vs mp
-
-  abbrev nt : ℕ → List ℕ
-  nt = annotationOf vs mp
-
-  abbrev upper : ℕ → Bool
-  upper g = all (dependentIn w g (nt (p / 2))) (nt (x / 2))
-
-  abbrev lower : ℕ → Bool
-  lower e = all (dependentIn w e (nt (x / 2))) (nt (p / 2))
-
-  pub agrees-same : a ≡ b → true ≡ agrees w st nt p x
-  unfolding agrees annotationOf
-  agrees-same h =
-      yes (upper (st (p / 2))) (lower (st (x / 2))) false (ap (all (dependentIn w (st (p / 2)) (nt (p / 2)))) n ∙ dependent-self w (st (p / 2)) (nt (p / 2)))
-      (sym (ap (λ zs. all (dependentIn w (st (x / 2)) zs) (nt (p / 2))) n ∙ dependent-self w (st (x / 2)) (nt (p / 2))))
+-- the clause's universal literals, negated
+module _ (w : ℕ → ℕ) where
+  negations-more : (y : ℕ) (ys : List ℕ) → negations w (y ∷ ys) ≡ negations w (y ∷ []) ++ negations w ys
+  unfolding negations
+  negations-more y ys = go (isUniversal w (y / 2)) (keep (λ z. isUniversal w (z / 2)) ys)
     where
-      n : nt (x / 2) ≡ nt (p / 2)
-      n = ap (listAt mp) (sym ha ∙ h ∙ hb)
+      go : (b : Bool) (ks : List ℕ) → map flip (elim b as (λ _. List ℕ) [ true ↦ y ∷ ks | false ↦ ks ])
+          ≡ map flip (elim b as (λ _. List ℕ) [ true ↦ y ∷ [] | false ↦ [] ]) ++ map flip ks
+      go true ks = refl
+      go false ks = refl
 
-  module _ {g : ℕ} (hg : g ≡ st (p / 2)) where
-    up : {r : Bool} → all (dependentIn w g (listAt mp b)) (listAt mp a) ≡ r → upper (st (p / 2)) ≡ r
-    unfolding annotationOf
-    up h = sym (ap₂ (λ i j. all (dependentIn w g (listAt mp i)) (listAt mp j)) hb ha ∙ ap upper hg) ∙ h
+  module _ (t : List ℕ) (y : ℕ) where
+    pub negation-yes : isUniversal w (y / 2) ≡ true → {z : ℕ} → z ≡ flip y → adding t z ≡ joined t (negations w (y ∷ []))
+    unfolding negations joined
+    negation-yes u q =
+        ap (adding t) q ∙ sym (ap (λ b. joined t (map flip (elim b as (λ _. List ℕ) [ true ↦ y ∷ [] | false ↦ [] ]))) u)
 
-    pub agrees-no : all (dependentIn w g (listAt mp b)) (listAt mp a) ≡ false → false ≡ agrees w st nt p x
-    unfolding agrees
-    agrees-no h = no (upper (st (p / 2))) (lower (st (x / 2))) false (up h) refl
+    pub negation-no : isUniversal w (y / 2) ≡ false → t ≡ joined t (negations w (y ∷ []))
+    unfolding negations joined
+    negation-no u = sym (ap (λ b. joined t (map flip (elim b as (λ _. List ℕ) [ true ↦ y ∷ [] | false ↦ [] ]))) u)
 
-    pub agrees-yes : {e : ℕ} {r : Bool} → e ≡ st (x / 2) → all (dependentIn w g (listAt mp b)) (listAt mp a) ≡ true
-        → r ≡ all (dependentIn w e (listAt mp a)) (listAt mp b) → r ≡ agrees w st nt p x
-    unfolding agrees annotationOf
-    agrees-yes {e} he h q =
-        yes (upper (st (p / 2))) (lower (st (x / 2))) false (up h)
-        (q ∙ ap₂ (λ i j. all (dependentIn w e (listAt mp i)) (listAt mp j)) ha hb ∙ ap lower he)
+  module _ (t whole : List ℕ) (m : List ℤ) (i : ℕ) {r : ℕ} (e : r ≡ codeAt m i) (inv : joined t (negations w (listAt m i)) ≡ whole) where
+    pub negations-stop : r ≡ 0 → t ≡ whole
+    unfolding joined negations
+    negations-stop z = sym (ap (λ l. joined t (negations w l)) (stop m i e z)) ∙ inv
 
-module _ (w : ℕ → ℕ) (vs mp : List ℤ) (ls cs : List ℕ) (p : ℕ) {b g : ℕ}
-    (hb : b ≡ annotationAt vs mp (p / 2)) (hg : g ≡ standsOf vs mp (p / 2)) where
-  clause-sees : {r : Bool} → all (negationIn w g (listAt mp b)) cs ≡ r → all (negationIn w (standsOf vs mp (p / 2)) (annotationOf vs mp (p / 2))) cs ≡ r
-  unfolding annotationOf
-  clause-sees h = sym (ap₂ (λ e n. all (negationIn w e (listAt mp n)) cs) hg hb) ∙ h
+    pub negations-turn : (r ≡ 0 → ⊥) → {u : List ℕ} → u ≡ joined t (negations w (r ∷ [])) → joined u (negations w (listAt m (i + 1))) ≡ whole
+    negations-turn z q =
+        ap (λ (l : List ℕ). joined l (negations w (listAt m (i + 1)))) q ∙ sym (joined-append t (negations w (r ∷ [])) (negations w (listAt m (i + 1))))
+        ∙ ap (joined t) (sym (negations-more r (listAt m (i + 1)))) ∙ sym (ap (λ l. joined t (negations w l)) (more m i e z)) ∙ inv
 
-  pub agreed-no : all (negationIn w g (listAt mp b)) cs ≡ false → false ≡ agreed w (standsOf vs mp) (annotationOf vs mp) ls cs p
-  unfolding agreed
-  agreed-no h =
-      no (all (negationIn w (standsOf vs mp (p / 2)) (annotationOf vs mp (p / 2))) cs) (all (agrees w (standsOf vs mp) (annotationOf vs mp) p) ls) false
-      (clause-sees h) refl
+-- the annotations of the line's copies
+module _ (vs mp pf : List ℤ) (t whole : List ℕ) (i : ℕ) {r : ℕ} (e : r ≡ codeAt pf i)
+    (inv : joined t (annotationsOf (annotationOf vs mp) (listAt pf i)) ≡ whole) where
+  pub notes-stop : r ≡ 0 → t ≡ whole
+  unfolding joined annotationsOf
+  notes-stop z = sym (ap (λ l. joined t (annotationsOf (annotationOf vs mp) l)) (stop pf i e z)) ∙ inv
 
-  pub agreed-yes : {r : Bool} → all (negationIn w g (listAt mp b)) cs ≡ true → r ≡ all (agrees w (standsOf vs mp) (annotationOf vs mp) p) ls
-      → r ≡ agreed w (standsOf vs mp) (annotationOf vs mp) ls cs p
-  unfolding agreed
-  agreed-yes h q =
-      yes (all (negationIn w (standsOf vs mp (p / 2)) (annotationOf vs mp (p / 2))) cs) (all (agrees w (standsOf vs mp) (annotationOf vs mp) p) ls) false
-      (clause-sees h) q
+  pub notes-turn : (r ≡ 0 → ⊥) → {a : ℕ} → a ≡ annotationAt vs mp (r / 2) → {u : List ℕ} → u ≡ joined t (listAt mp a)
+      → (joined u (listAt mp a) ≡ u) × (joined u (annotationsOf (annotationOf vs mp) (listAt pf (i + 1))) ≡ whole)
+  unfolding annotationOf annotationsOf
+  notes-turn z {a} h q = (
+    ap (λ (l : List ℕ). joined l (listAt mp a)) q ∙ joined-twice t (listAt mp a) ∙ sym q,
+    ap (λ (l : List ℕ). joined l rest) (q ∙ ap (λ n. joined t (listAt mp n)) h) ∙ sym (joined-append t (listAt mp (annotationAt vs mp (r / 2))) rest)
+        ∙ sym (ap (λ l. joined t (annotationsOf (annotationOf vs mp) l)) (more pf i e z)) ∙ inv,
+  )
+    where
+      rest : List ℕ
+      rest = annotationsOf (annotationOf vs mp) (listAt pf (i + 1))
 
-module _ (w st : ℕ → ℕ) (nt : ℕ → List ℕ) (cs : List ℕ) (t : List ℤ) (l : ℕ) {x : ℕ} (e : x ≡ codeAt t l) where
-  pub notes-none : x ≡ 0 → true ≡ annotationsFit w st nt (listAt t l) cs
-  unfolding annotationsFit
-  notes-none z = sym (ap (λ ls. annotationsFit w st nt ls cs) (stop t l e z))
+-- both signs
+module _ (h t : List ℕ) {i : ℕ} {whole : Bool} (inv : all (alone t) (listed h i) ≡ whole) where
+  pub apart-none : i ≤ 0 → true ≡ whole
+  apart-none l = sym (ap (all (alone t)) (listed-none h l)) ∙ inv
 
-  pub notes-some : {p : ℕ} {r : Bool} → (x ≡ 0 → ⊥) → p ≡ rightmost w st x (listAt t l) → r ≡ agreed w st nt (listAt t l) cs p
-      → r ≡ annotationsFit w st nt (listAt t l) cs
-  unfolding annotationsFit
-  notes-some z h q =
-      q ∙ ap (agreed w st nt (listAt t l) cs) h ∙ ap (λ ls. agreed w st nt ls cs (rightmost w st x ls)) (more t l e z)
-      ∙ sym (ap (λ ls. annotationsFit w st nt ls cs) (more t l e z))
+  module _ (l : 0 < i) {y z : ℕ} {b : Bool} (v : y ≡ getD h (i - 1) 0) (n : z ≡ flip y) (q : b ≡ isIn t z) where
+    here : alone t (getD h (i - 1) 0) ≡ not b
+    unfolding alone
+    here = sym (ap not (q ∙ ap (isIn t) (n ∙ ap flip v)))
 
+    step : {c : Bool} → b ≡ c → not c && all (alone t) (listed h (i - 1)) ≡ whole
+    step k = ap (λ d. d && all (alone t) (listed h (i - 1))) (sym (here ∙ ap not k)) ∙ sym (ap (all (alone t)) (listed-down h l)) ∙ inv
+
+    pub apart-clash : b ≡ true → false ≡ whole
+    apart-clash k = step k
+
+    pub apart-next : b ≡ false → all (alone t) (listed h (i - 1)) ≡ whole
+    apart-next k = step k
+
+-- THE SIZES OF ITS PARTS
+module _ (w : ℕ → ℕ) (e : ℕ) where
+  size-more : (y : ℕ) (t : List ℕ) → partSize w (y ∷ t) e ≡ partSize w (y ∷ []) e + partSize w t e
+  unfolding partSize
+  size-more y t = go (dependency w e (y / 2)) (keep (λ z. dependency w e (z / 2)) t)
+    where
+      go : (b : Bool) (ks : List ℕ) → length {A = ℕ} (elim b as (λ _. List ℕ) [ true ↦ y ∷ ks | false ↦ ks ])
+          ≡ length {A = ℕ} (elim b as (λ _. List ℕ) [ true ↦ y ∷ [] | false ↦ [] ]) + length ks
+      go true ks = omega arith
+      go false ks = omega arith
+
+  module _ (y : ℕ) where
+    size-yes : dependency w e (y / 2) ≡ true → partSize w (y ∷ []) e ≡ 1
+    unfolding partSize
+    size-yes d = ap (λ b. length {A = ℕ} (elim b as (λ _. List ℕ) [ true ↦ y ∷ [] | false ↦ [] ])) d
+
+    size-no : dependency w e (y / 2) ≡ false → partSize w (y ∷ []) e ≡ 0
+    unfolding partSize
+    size-no d = ap (λ b. length {A = ℕ} (elim b as (λ _. List ℕ) [ true ↦ y ∷ [] | false ↦ [] ])) d
+
+    pub tally-yes : (k : ℕ) → dependency w e (y / 2) ≡ true → k + 1 ≡ k + partSize w (y ∷ []) e
+    tally-yes k d = ap (λ n. k + n) (sym (size-yes d))
+
+    pub tally-no : (k : ℕ) → dependency w e (y / 2) ≡ false → k ≡ k + partSize w (y ∷ []) e
+    tally-no k d = omega (arith, size-no d)
+
+    pub tally-one : partSize w (y ∷ []) e ≤ 1
+    tally-one = go (dependency w e (y / 2)) refl
+      where
+        go : (b : Bool) → dependency w e (y / 2) ≡ b → partSize w (y ∷ []) e ≤ 1
+        go true d = omega (arith, size-yes d)
+        go false d = omega (arith, size-no d)
+
+  module _ (h : List ℕ) (i k : ℕ) {whole : ℕ} (inv : k + partSize w (listed h i) e ≡ whole) where
+    pub size-end : i ≤ 0 → k ≡ whole
+    unfolding partSize
+    size-end l = let z = ap (λ (t : List ℕ). partSize w t e) (listed-none h l) in omega (arith, z, inv)
+
+    pub size-turn : 0 < i → {y r : ℕ} → y ≡ getD h (i - 1) 0 → r ≡ k + partSize w (y ∷ []) e → r + partSize w (listed h (i - 1)) e ≡ whole
+    size-turn l {y} {r} v q =
+        let z = ap (λ (t : List ℕ). partSize w t e) (listed-down h l) in
+        let u = size-more (getD h (i - 1) 0) (listed h (i - 1)) in
+        let x = ap (λ n. partSize w (n ∷ []) e) v in
+        omega (arith, z, u, x, q, inv)
+
+-- HOW LONG AN ANNOTATION IS
+module _ (m : List ℤ) (i a : ℕ) {r : ℕ} (e : r ≡ codeAt m i) where
+  pub long-end : r ≡ 0 → a ≤ i → length (listAt m a) ≡ (i - a) + length (listAt m i) → i - a ≡ length (listAt m a)
+  long-end z h q = let k = ap {A = List ℕ} length (stop m i e z) in omega arith
+
+  pub long-turn : (r ≡ 0 → ⊥) → a ≤ i → length (listAt m a) ≡ (i - a) + length (listAt m i)
+      → length (listAt m a) ≡ (i + 1 - a) + length (listAt m (i + 1))
+  long-turn z h q = let k = ap {A = List ℕ} length (more m i e z) in omega arith
+
+pub long-past : (m : List ℤ) → 0 ≡ length (listAt m (length m))
+long-past m = sym (ap {A = List ℕ} length (list-past m (length m) (omega arith)))
+
+-- ONE COPY
+module _ (w : ℕ → ℕ) (h : List ℕ) (n e k : ℕ) where
+  pub part-all : k ≡ n → true ≡ isPart w (listed h n) e k
+  unfolding isPart
+  part-all q =
+      yes (eqb k (length (listed h n))) true (eqb (partSize w (listed h n) e) k)
+      (eq-eqb k (length (listed h n)) (q ∙ sym (listed-length h n))) refl
+
+  pub part-counted : (k ≡ n → ⊥) → {s : ℕ} → s ≡ partSize w (listed h n) e → eqb s k ≡ isPart w (listed h n) e k
+  unfolding isPart
+  part-counted q r =
+      no (eqb k (length (listed h n))) true (eqb (partSize w (listed h n) e) k)
+      (ne-eqb k (length (listed h n)) (λ z. q (z ∙ listed-length h n))) (ap (λ s. eqb s k) r)
+
+pub copy-is : (w st : ℕ → ℕ) (vs mp : List ℤ) (t : List ℕ) (x : ℕ) {a e k : ℕ} {r b : Bool} → a ≡ annotationAt vs mp (x / 2) → e ≡ st (x / 2)
+    → k ≡ length (listAt mp a) → r ≡ isPart w t e k → r ≡ b → copyFits w st (annotationOf vs mp) t x ≡ b
+unfolding copyFits annotationOf
+copy-is w st vs mp t x ha he hk hr hb =
+    sym (sym hb ∙ hr ∙ ap₂ (isPart w t) he (hk ∙ ap (λ n. length (listAt mp n)) ha))
+
+-- ALL OF THE TEST
 module _ (w st : ℕ → ℕ) (nt : ℕ → List ℕ) (ls cs : List ℕ) where
+  -- t after the clause, and after the line
+  module _ {u t : List ℕ} (hu : u ≡ joined [] (negations w cs)) (ht : t ≡ joined u (annotationsOf nt ls)) where
+    least-is : t ≡ leastOf w st nt ls cs
+    unfolding leastOf
+    least-is = ht ∙ ap (λ (l : List ℕ). joined l (annotationsOf nt ls)) hu ∙ sym (joined-append [] (negations w cs) (annotationsOf nt ls))
+
+    pub notes-no : {b : Bool} → b ≡ apart t → b ≡ false → false ≡ annotationsFit w st nt ls cs
+    unfolding annotationsFit
+    notes-no q h =
+        no (apart (leastOf w st nt ls cs)) (all (copyFits w st nt (leastOf w st nt ls cs)) ls) false (sym (q ∙ ap apart least-is) ∙ h) refl
+
+    pub notes-yes : {b r : Bool} → b ≡ apart t → b ≡ true → r ≡ all (copyFits w st nt t) ls → r ≡ annotationsFit w st nt ls cs
+    unfolding annotationsFit
+    notes-yes q h k =
+        yes (apart (leastOf w st nt ls cs)) (all (copyFits w st nt (leastOf w st nt ls cs)) ls) false (sym (q ∙ ap apart least-is) ∙ h)
+        (k ∙ ap (λ (l : List ℕ). all (copyFits w st nt l) ls) least-is)
+
   pub expands-no : literalsFit w st ls cs ≡ false → false ≡ expandsCodes w st nt ls cs
   unfolding expandsCodes
   expands-no a = no (literalsFit w st ls cs) (annotationsFit w st nt ls cs) false a refl

@@ -1,34 +1,39 @@
 -- THE ANSWER OVER THE TABLES IS THE RULES' EXPANSION. Assumes nothing.
 use mathlib.Core.Path.{_≡_, refl, sym, ap, ap₂, subst, _∙_}
-use mathlib.Core.Logic.{_↔_}
-use mathlib.Core.Bool.{Bool, true, false, not, cond, _||_, false≢true}
-use mathlib.Core.List.{List, [], _∷_, map, List·Memᴰ·head, List·Memᴰ·tail, List·Memᴰ·not-nil, Memᴰ·map, Memᴰ·of-map}
-use Prim.Native.Nat.{ℕ, _+_, _*_, _/_, _%_, _≤_}
+use mathlib.Core.Bool.{Bool, true, false, not, cond, _&&_, _||_, false≢true}
+use mathlib.Core.List.{List, [], _∷_, _++_, map, List·Memᴰ·head, List·Memᴰ·tail, List·Memᴰ·not-nil, Memᴰ·cast, Memᴰ·map, Memᴰ·of-map, map-append}
+use Prim.Native.Nat.{ℕ, _+_, _*_, _/_, _%_, _≤_, _<_}
 use native.Mathlib.Omega.{arith}
 use lib.IntN.{ℤ}
 use lib.Dec.{eqb}
-use Rattle.lines.specs.Lists.{all}
+use lib.ListN.{length}
+use borrow.Author.Tests.{eq-eqb, eqb-true}
+use Rattle.lines.specs.Lists.{all, keep}
 use Rattle.cells.specs.Cells.{listAt}
-use Rattle.rules.specs.Basics.{isIn}
-use Rattle.rules.specs.Literals.{Lit, Lits, pos, neg, var, vars, negate, over, holds, within}
+use Rattle.rules.specs.Basics.{isIn, distinct}
+use Rattle.rules.specs.Literals.{Lit, Lits, pos, neg, var, vars, negate, over, holds, within, bothSigns}
 use Rattle.rules.specs.Formula.{Formula, bound, universal, existential, leftOf, dependsOn}
-use Rattle.rules.specs.Expansion.{Copy, isMapped, standsFor, annotation, existentials, sameLiterals, expands}
-use Rattle.rules.specs.Codes.{codeOf}
-use Rattle.rules.specs.Least.{ProperCopy, Proper}
-use Rattle.rules.proofs.Kit.{clear, and-l, and-r, and-i, not-t, not-of-f, by-yes, In, all-in, in-all, keep-in, in-keep, holds-in, in-holds, same-test}
-use Rattle.rules.proofs.CodesLaw.{code-negate, var-code, holds-code}
-use Rattle.rules.proofs.Distinct.{in-isIn}
-use Rattle.rules.proofs.ExpansionLaw.{proper-depends}
-use Rattle.rules.proofs.ExpansionTests.{Says, Tested, expands-says, says-tested, tested-says}
-use Rattle.prefix.specs.Prefix.{entry, isUniversal, isExistential, dependency, nested}
-use Rattle.prefix.proofs.Laws.{Told, told-universal, told-existential, told-depends, universal-ranged, existential-ranged, nested-depends}
-use Rattle.expansion.specs.Codes.{standsOf, annotationOf, imageOf, imagesOf, oneSigned, dependentIn, negationIn, inClause, inLine, literalsFit, rightmost, agrees, agreed, annotationsFit, expandsCodes, expandsAt}
-use Rattle.expansion.proofs.Pivot.{rightmost-in, rightmost-top}
+use Rattle.rules.specs.Expansion.{Copy, isMapped, standsFor, annotation, universals, existentials, part, falsifies, sameLiterals, annotatedBy, expandsBy, expands}
+use Rattle.rules.specs.Codes.{codeOf, litOf, flip}
+use Rattle.rules.specs.Least.{annotations, leastBy, expandsByLeast, ProperCopy, Proper}
+use Rattle.rules.proofs.Kit.{clear, and-l, and-r, and-i, not-t, not-of-f, by-yes, either, var-negate, In, all-in, in-all, keep-in, in-keep, holds-in, in-holds, same-test}
+use Rattle.rules.proofs.CodesLaw.{lit-code, code-negate, var-code, holds-code}
+use Rattle.rules.proofs.Distinct.{in-isIn, isIn-in, distinct-cons, distinct-new, distinct-tail, distinct-keep}
+use Rattle.rules.proofs.Good.{signs-in, in-signs}
+use Rattle.rules.proofs.ExpansionLaw.{annotation-in, proper-depends, in-least, least-universal, least-annotation, expands-least}
+use Rattle.prefix.specs.Prefix.{entry, isUniversal, isExistential, dependency}
+use Rattle.prefix.specs.Prefix.{Told}
+use Rattle.prefix.proofs.Laws.{told-universal, told-existential, told-depends, universal-ranged, existential-ranged}
+use Rattle.expansion.specs.Marks.{joined}
+use Rattle.expansion.specs.Codes.{standsOf, annotationOf, imageOf, imagesOf, alone, apart, annotationsOf, negations, partSize, isPart, inClause, inLine, literalsFit, leastOf, copyFits, annotationsFit, expandsCodes, expandsAt}
+use Rattle.expansion.proofs.HeldLaws.{joined-has, joined-from, joined-distinct}
+use Rattle.expansion.proofs.Counting.{same-count}
 
--- WHAT THE TABLES SHOW: the prefix with variables up to n, the line, the clause with its variables bound, and of the line's copies, all
+-- WHAT THE TABLES SHOW: the prefix with variables up to n, none above 4096, the line, the clause with its variables bound, and of the line's copies, all
 -- mapped, their existentials and annotations, as rules 7 and 8 let them be
 pub record Shown (prefix values maps proof matrix : List ℤ) (l c n : ℕ) (f : Formula) (m : List Copy) (line clause : Lits) : Type 0 where
   pub told : Told prefix n f
+  pub low : n ≤ 4096
   pub theLine : listAt proof l ≡ map codeOf line
   pub theClause : listAt matrix c ≡ map codeOf clause
   pub closed : all (isIn (bound f)) (vars clause) ≡ true
@@ -49,6 +54,10 @@ mapped-stands f (c ∷ m) p each h =
     go true e r k = e
     go false e r k = r k
 
+-- an existential depends on universals only
+depends-universal : (f : Formula) (e u : ℕ) → dependsOn f e u ≡ true → universal f u ≡ true
+depends-universal f e u h = and-l (universal f u) (leftOf f u e) h
+
 -- CODES OF CLAUSES
 module _ (c : Lits) (x : Lit) where
   in-code : In x c → isIn (map codeOf c) (codeOf x) ≡ true
@@ -63,6 +72,23 @@ module _ (P : ℕ → Bool) (c : Lits) where
 
   at-code : ((x : Lit) → In x c → P (codeOf x) ≡ true) → all P (map codeOf c) ≡ true
   at-code h = in-all P (map codeOf c) λ y i. let s = Memᴰ·of-map codeOf c i in sym (ap P (s .2)) ∙ h (s .0) (s .1)
+
+codes-distinct : (c : Lits) → distinct (vars c) ≡ true → distinct (map codeOf c) ≡ true
+codes-distinct [] d = refl
+codes-distinct (x ∷ c) d =
+    distinct-cons (codeOf x) (map codeOf c)
+    (λ i. let s = Memᴰ·of-map codeOf c i in
+    distinct-new (var x) (vars c) d (Memᴰ·cast (sym (sym (var-code (s .0)) ∙ ap (λ k. k / 2) (s .2) ∙ var-code x)) (Memᴰ·map var (s .1))))
+    (codes-distinct c (distinct-tail (var x) (vars c) d))
+
+code-low : (x : Lit) (n : ℕ) → var x ≤ n → n ≤ 4096 → codeOf x < 8194
+code-low (pos v) n h k = omega arith
+code-low (neg v) n h k = omega arith
+
+-- a test of codes and one of variables
+all-codes : (P Q : ℕ → Bool) (c : Lits) → ((x : Lit) → In x c → P (codeOf x) ≡ Q (var x)) → all P (map codeOf c) ≡ all Q (vars c)
+all-codes P Q [] h = refl
+all-codes P Q (x ∷ c) h = ap₂ _&&_ (h x (List·Memᴰ·head refl)) (all-codes P Q c λ y i. h y (List·Memᴰ·tail i))
 
 code-over : (st g : ℕ → ℕ) (x : Lit) → st (var x) ≡ g (var x) → imageOf st (codeOf x) ≡ codeOf (over g x)
 unfolding imageOf
@@ -143,11 +169,9 @@ module _ (prefix values maps proof matrix : List ℤ) (l c n : ℕ) (f : Formula
   stands-ranged : (p : ℕ) → In p (vars line) → sf p ≤ n
   stands-ranged p i = existential-ranged prefix n f (shown .told) (sf p) (line-stands p i)
 
-  depends-ranged : (e u : ℕ) → dependsOn f e u ≡ true → u ≤ n
-  depends-ranged e u h = universal-ranged prefix n f (shown .told) u (and-l (universal f u) (leftOf f u e) h)
-
   annotations-ranged : (p : ℕ) (y : Lit) → In y (ann p) → var y ≤ n
-  annotations-ranged p y i = depends-ranged (sf p) (var y) (proper-depends f m (shown .proper) p y i)
+  annotations-ranged p y i =
+      universal-ranged prefix n f (shown .told) (var y) (depends-universal f (sf p) (var y) (proper-depends f m (shown .proper) p y i))
 
   -- WHAT THE TABLES SAY OF CODES
   code-universal : (y : Lit) → var y ≤ n → isUniversal w (codeOf y / 2) ≡ universal f (var y)
@@ -169,10 +193,6 @@ module _ (prefix values maps proof matrix : List ℤ) (l c n : ℕ) (f : Formula
   images : imagesOf st L ≡ map codeOf (map (over sf) line)
   images = images-codes st sf line λ x i. shown .stands (var x) (Memᴰ·map var i)
 
-  one-code : (y : Lit) → In y clause → oneSigned w C (codeOf y) ≡ cond (universal f (var y)) (not (isIn C (codeOf (negate y)))) true
-  unfolding oneSigned
-  one-code y i = ap₂ (λ a k. cond a (not (isIn C k)) true) (code-universal y (clause-ranged y i)) (sym (code-negate y))
-
   clause-code : (x : Lit) → In x line → inClause w st C (codeOf x) ≡ isIn C (codeOf (over sf x))
   unfolding inClause
   clause-code x i =
@@ -191,9 +211,6 @@ module _ (prefix values maps proof matrix : List ℤ) (l c n : ℕ) (f : Formula
   abbrev Q₂ : Bool
   Q₂ = all (inLine w st L) C
 
-  abbrev Q₃ : Bool
-  Q₃ = all (oneSigned w C) C
-
   -- the line's literals with their copies replaced, and the clause's existential ones
   abbrev replaced : Lits
   replaced = map (over sf) line
@@ -204,241 +221,196 @@ module _ (prefix values maps proof matrix : List ℤ) (l c n : ℕ) (f : Formula
   over-existential : (x : Lit) → In x line → existential f (var (over sf x)) ≡ true
   over-existential x i = ap (existential f) (over-var sf x) ∙ line-stands (var x) (Memᴰ·map var i)
 
-  module _ (h : literalsFit w st L C ≡ true) where
-    fit-line : Q₁ ≡ true
-    unfolding literalsFit
-    fit-line = both-l Q₁ (cond Q₂ Q₃ false) h
-
-    fit-clause : Q₂ ≡ true
-    unfolding literalsFit
-    fit-clause = both-l Q₂ Q₃ (both-r Q₁ (cond Q₂ Q₃ false) h)
-
-    fit-signs : Q₃ ≡ true
-    unfolding literalsFit
-    fit-signs = both-r Q₂ Q₃ (both-r Q₁ (cond Q₂ Q₃ false) h)
-
-    fit-literals : sameLiterals f m line clause ≡ true
-    fit-literals =
-        and-i (within replaced wanted) (within wanted replaced)
-        (in-all (holds wanted) replaced λ y i.
-        let s = Memᴰ·of-map (over sf) line i in
-        subst (λ (z : Lit). holds wanted z ≡ true) (s .2)
-        (in-holds wanted (over sf (s .0)) (keep-in (λ l. existential f (var l))
-        (code-in clause (over sf (s .0)) (sym (clause-code (s .0) (s .1)) ∙ code-at (inClause w st C) line fit-line (s .0) (s .1)))
-        (over-existential (s .0) (s .1)))))
-        (in-all (holds replaced) wanted λ y i.
-        let s = in-keep (λ l. existential f (var l)) y clause i in
-        in-holds replaced y (code-in replaced y
-        (implied (existential f (var y)) (isIn (map codeOf replaced) (codeOf y))
-        (sym (line-code y (s .0)) ∙ code-at (inLine w st L) clause fit-clause y (s .0)) (s .1))))
-
-    fit-one : (y : Lit) → In y clause → universal f (var y) ≡ true → In (negate y) clause → ⊥
-    fit-one y i u k =
-        clear (in-code clause (negate y) k)
-        (not-t (isIn C (codeOf (negate y)))
-        (implied (universal f (var y)) (not (isIn C (codeOf (negate y))))
-        (sym (one-code y i) ∙ code-at (oneSigned w C) clause fit-signs y i) u))
-
-  says-fit : Says f m line clause → literalsFit w st L C ≡ true
+  literals-code : literalsFit w st L C ≡ sameLiterals f m line clause
   unfolding literalsFit
-  says-fit s =
-      both-i Q₁ (cond Q₂ Q₃ false)
+  literals-code = same-test (cond Q₁ Q₂ false) (sameLiterals f m line clause)
+      (λ h. and-i (within replaced wanted) (within wanted replaced)
+      (in-all (holds wanted) replaced λ y i.
+      let s = Memᴰ·of-map (over sf) line i in
+      subst (λ (z : Lit). holds wanted z ≡ true) (s .2)
+      (in-holds wanted (over sf (s .0)) (keep-in (λ l. existential f (var l))
+      (code-in clause (over sf (s .0)) (sym (clause-code (s .0) (s .1)) ∙ code-at (inClause w st C) line (both-l Q₁ Q₂ h) (s .0) (s .1)))
+      (over-existential (s .0) (s .1)))))
+      (in-all (holds replaced) wanted λ y i.
+      let s = in-keep (λ l. existential f (var l)) y clause i in
+      in-holds replaced y (code-in replaced y
+      (implied (existential f (var y)) (isIn (map codeOf replaced) (codeOf y))
+      (sym (line-code y (s .0)) ∙ code-at (inLine w st L) clause (both-r Q₁ Q₂ h) y (s .0)) (s .1)))))
+      (λ h. both-i Q₁ Q₂
       (at-code (inClause w st C) line λ x i.
       clause-code x i ∙ in-code clause (over sf x) (in-keep (λ l. existential f (var l)) (over sf x) clause
-      (holds-in wanted (over sf x) (all-in (holds wanted) (and-l (within replaced wanted) (within wanted replaced) (s .literals))
+      (holds-in wanted (over sf x) (all-in (holds wanted) (and-l (within replaced wanted) (within wanted replaced) h)
       (Memᴰ·map (over sf) i))) .0))
-      (both-i Q₂ Q₃
       (at-code (inLine w st L) clause λ y i.
       line-code y i ∙ implies (existential f (var y)) (isIn (map codeOf replaced) (codeOf y)) λ e.
-      in-code replaced y (holds-in replaced y (all-in (holds replaced) (and-r (within replaced wanted) (within wanted replaced) (s .literals))
-      (keep-in (λ l. existential f (var l)) i e))))
-      (at-code (oneSigned w C) clause λ y i.
-      one-code y i ∙ implies (universal f (var y)) (not (isIn C (codeOf (negate y)))) λ u.
-      not-of-f (by-yes (isIn C (codeOf (negate y))) λ h. s .oneSigned y i u (code-in clause (negate y) h))))
+      in-code replaced y (holds-in replaced y (all-in (holds replaced) (and-r (within replaced wanted) (within wanted replaced) h)
+      (keep-in (λ l. existential f (var l)) i e)))))
 
-  -- THE ANNOTATIONS: what e depends on of A is in B, and of the clause its negation
-  abbrev Sees : ℕ → Lits → Lits → Type 0
-  Sees e A B = (y : Lit) → In y A → dependsOn f e (var y) ≡ true → In y B
+  -- THE LEAST t
+  abbrev least : Lits
+  least = leastBy f m line clause
 
-  abbrev SeesClause : ℕ → Lits → Type 0
-  SeesClause e B = (y : Lit) → In y clause → dependsOn f e (var y) ≡ true → In (negate y) B
+  abbrev T : List ℕ
+  T = leastOf w st nt L C
 
-  module _ (e : ℕ) (low : e ≤ n) (A B : Lits) (ranged : (y : Lit) → In y A → var y ≤ n) where
-    dependent-code : (y : Lit) → In y A → dependentIn w e (map codeOf B) (codeOf y) ≡ cond (dependsOn f e (var y)) (isIn (map codeOf B) (codeOf y)) true
-    unfolding dependentIn
-    dependent-code y i = ap (λ a. cond a (isIn (map codeOf B) (codeOf y)) true) (code-depends e y low (ranged y i))
+  negations-code : (ys : Lits) → ((y : Lit) → In y ys → var y ≤ n) → negations w (map codeOf ys) ≡ map codeOf (map negate (universals f ys))
+  unfolding negations
+  negations-code [] h = refl
+  negations-code (y ∷ ys) h =
+      ap (λ b. map flip (elim b as (λ _. List ℕ) [ true ↦ codeOf y ∷ codes | false ↦ codes ])) (code-universal y (h y (List·Memᴰ·head refl)))
+      ∙ go (universal f (var y)) (negations-code ys λ z i. h z (List·Memᴰ·tail i))
+    where
+      codes : List ℕ
+      codes = keep (λ k. isUniversal w (k / 2)) (map codeOf ys)
 
-    dependents-see : all (dependentIn w e (map codeOf B)) (map codeOf A) ≡ true → Sees e A B
-    dependents-see h y i d =
-        code-in B y (implied (dependsOn f e (var y)) (isIn (map codeOf B) (codeOf y))
-        (sym (dependent-code y i) ∙ code-at (dependentIn w e (map codeOf B)) A h y i) d)
+      go : (b : Bool) → map flip codes ≡ map codeOf (map negate (universals f ys))
+          → map flip (elim b as (λ _. List ℕ) [ true ↦ codeOf y ∷ codes | false ↦ codes ])
+          ≡ map codeOf (map negate (elim b as (λ _. Lits) [ true ↦ y ∷ universals f ys | false ↦ universals f ys ]))
+      go true e = ap₂ (λ i j. i ∷ j) (sym (code-negate y)) e
+      go false e = e
 
-    see-dependents : Sees e A B → all (dependentIn w e (map codeOf B)) (map codeOf A) ≡ true
-    see-dependents s = at-code (dependentIn w e (map codeOf B)) A λ y i.
-        dependent-code y i ∙ implies (dependsOn f e (var y)) (isIn (map codeOf B) (codeOf y)) λ d. in-code B y (s y i d)
+  annotations-code : (ls : Lits) → ((x : Lit) → In x ls → In x line) → annotationsOf nt (map codeOf ls) ≡ map codeOf (annotations m (vars ls))
+  unfolding annotationsOf
+  annotations-code [] h = refl
+  annotations-code (x ∷ ls) h =
+      ap₂ _++_ (code-annotation x (h x (List·Memᴰ·head refl))) (annotations-code ls λ y i. h y (List·Memᴰ·tail i))
+      ∙ sym (map-append codeOf (ann (var x)) (annotations m (vars ls)))
 
-  module _ (e : ℕ) (low : e ≤ n) (B : Lits) where
-    negation-code : (y : Lit) → In y clause
-        → negationIn w e (map codeOf B) (codeOf y) ≡ cond (dependsOn f e (var y)) (isIn (map codeOf B) (codeOf (negate y))) true
-    unfolding negationIn
-    negation-code y i =
-        ap₂ (λ a k. cond a (isIn (map codeOf B) k) true) (code-depends e y low (clause-ranged y i)) (sym (code-negate y))
+  least-code : T ≡ joined [] (map codeOf least)
+  unfolding leastOf leastBy
+  least-code =
+      ap (joined []) (ap₂ _++_ (negations-code clause clause-ranged) (annotations-code line λ x i. i)
+      ∙ sym (map-append codeOf (map negate (universals f clause)) (annotations m (vars line))))
 
-    negations-see : all (negationIn w e (map codeOf B)) C ≡ true → SeesClause e B
-    negations-see h y i d =
-        code-in B (negate y) (implied (dependsOn f e (var y)) (isIn (map codeOf B) (codeOf (negate y)))
-        (sym (negation-code y i) ∙ code-at (negationIn w e (map codeOf B)) clause h y i) d)
+  least-ranged : (y : Lit) → In y least → var y ≤ n
+  least-ranged y i =
+      either (λ s. let k = clause-ranged (negate y) (s .0) in let e = var-negate y in omega arith) (λ s. annotations-ranged (s .0) y (s .2))
+      (in-least f m line clause y i)
 
-    see-negations : SeesClause e B → all (negationIn w e (map codeOf B)) C ≡ true
-    see-negations s = at-code (negationIn w e (map codeOf B)) clause λ y i.
-        negation-code y i ∙ implies (dependsOn f e (var y)) (isIn (map codeOf B) (codeOf (negate y))) λ d. in-code B (negate y) (s y i d)
+  in-T : (y : Lit) → In y least → In (codeOf y) T
+  in-T y i =
+      subst (In (codeOf y)) (sym least-code)
+      (joined-has [] (map codeOf least) (Memᴰ·map codeOf i) (code-low y n (least-ranged y i) (shown .low)))
 
-  -- two copies agree
-  abbrev both : ℕ → List ℕ → ℕ → List ℕ → Bool
-  both g b e a = cond (all (dependentIn w g b) a) (all (dependentIn w e a) b) false
+  T-in : (k : ℕ) → In k T → (y : Lit) × In y least × (codeOf y ≡ k)
+  T-in k i =
+      Memᴰ·of-map codeOf least
+      (either (λ j. absurd (List·Memᴰ·not-nil j)) (λ j. j) (joined-from [] (map codeOf least) (subst (In k) least-code i)))
 
-  agrees-code : (p x : Lit) → In p line → In x line
-      → agrees w st nt (codeOf p) (codeOf x) ≡ both (sf (var p)) (map codeOf (ann (var p))) (sf (var x)) (map codeOf (ann (var x)))
-  unfolding agrees
-  agrees-code p x i k =
-      ap₂ (λ g b. both g b (st (codeOf x / 2)) (nt (codeOf x / 2))) (code-stands p i) (code-annotation p i)
-      ∙ ap₂ (λ e a. both (sf (var p)) (map codeOf (ann (var p))) e a) (code-stands x k) (code-annotation x k)
+  same-lit : (x y : Lit) → codeOf x ≡ codeOf y → x ≡ y
+  same-lit x y e = sym (lit-code x) ∙ ap litOf e ∙ lit-code y
 
-  -- P COMPARED WITH ALL, p being a copy of the line whose existential depends on whatever another's of the line does
-  module _ (x : Lit) (member : In x line)
-      (top : (q : ℕ) → In q (vars line) → (u : ℕ) → dependsOn f (sf q) u ≡ true → dependsOn f (sf (var x)) u ≡ true) where
+  T-holds : (y : Lit) → isIn T (codeOf y) ≡ holds least y
+  T-holds y =
+      same-test (isIn T (codeOf y)) (holds least y)
+      (λ h. let s = T-in (codeOf y) (isIn-in T (codeOf y) h) in in-holds least y (Memᴰ·cast (sym (same-lit (s .0) y (s .2))) (s .1)))
+      (λ h. in-isIn T (codeOf y) (in-T y (holds-in least y h)))
+
+  -- both signs
+  alone-code : (y : Lit) → alone T (codeOf y) ≡ not (holds least (negate y))
+  unfolding alone
+  alone-code y = ap not (ap (isIn T) (sym (code-negate y)) ∙ T-holds (negate y))
+
+  apart-code : apart T ≡ not (bothSigns least)
+  unfolding apart
+  apart-code = same-test (all (alone T) T) (not (bothSigns least))
+      (λ h. not-of-f (by-yes (bothSigns least) λ e. let s = signs-in least e in
+      clear (in-holds least (negate (s .0)) (s .2))
+      (not-t (holds least (negate (s .0))) (sym (alone-code (s .0)) ∙ all-in (alone T) h (in-T (s .0) (s .1))))))
+      (λ h. in-all (alone T) T λ k i. let s = T-in k i in
+      sym (ap (alone T) (s .2)) ∙ alone-code (s .0)
+      ∙ not-of-f (by-yes (holds least (negate (s .0))) λ e. clear (in-signs least (s .0) (s .1) (holds-in least (negate (s .0)) e)) (not-t (bothSigns least) h)))
+
+  -- ONE COPY: its annotation is within the part of t, and no literal comes twice in either
+  annotation-distinct : (p : ℕ) → distinct (map codeOf (ann p)) ≡ true
+  annotation-distinct p = go (ann p) refl
+    where
+      go : (ls : Lits) → ann p ≡ ls → distinct (map codeOf (ann p)) ≡ true
+      go [] e = ap (λ (k : Lits). distinct (map codeOf k)) e
+      go (y ∷ ls) e =
+          let s = annotation-in m p y (subst (In y) (sym e) (List·Memᴰ·head refl)) in
+          ap (λ (k : Lits). distinct (map codeOf k)) (s .2) ∙ codes-distinct (s .0 .under) (shown .proper .each (s .0) (s .1) .once)
+
+  module _ (x : Lit) (here : In x line) where
     abbrev p : ℕ
     p = var x
 
-    abbrev inRange : (q : ℕ) → In q (vars line) → sf q ≤ n
-    inRange = stands-ranged
+    abbrev A : List ℕ
+    A = map codeOf (ann p)
 
-    agreed-code : agreed w st nt L C (codeOf x)
-        ≡ cond (all (negationIn w (sf p) (map codeOf (ann p))) C) (all (agrees w st nt (codeOf x)) L) false
-    unfolding agreed
-    agreed-code =
-        ap₂ (λ e b. cond (all (negationIn w e b) C) (all (agrees w st nt (codeOf x)) L) false) (code-stands x member) (code-annotation x member)
+    abbrev dependent : ℕ → Bool
+    dependent k = dependency w (sf p) (k / 2)
 
-    here : In p (vars line)
-    here = Memᴰ·map var member
+    abbrev mine : Lits
+    mine = part f (sf p) least
 
-    agreed-tested : agreed w st nt L C (codeOf x) ≡ true → Tested f m line clause p
-    agreed-tested h = record {
-      ofClause = negations-see (sf p) (inRange p here) (ann p) (both-l N A k);
-      upper = λ q i y k. let s = Memᴰ·of-map var line i in
-          subst (λ (v : ℕ). Sees (sf p) (ann v) (ann p)) (s .2)
-          (dependents-see (sf p) (inRange p here) (ann (var (s .0))) (ann p) (annotations-ranged (var (s .0)))
-          (both-l (U (s .0)) (D (s .0)) (pair (s .0) (s .1))))
-          y k (top q i (var y) (proper-depends f m (shown .proper) q y k));
-      lower = λ q i. let s = Memᴰ·of-map var line i in
-          subst (λ (v : ℕ). Sees (sf v) (ann p) (ann v)) (s .2)
-          (dependents-see (sf (var (s .0))) (inRange (var (s .0)) (Memᴰ·map var (s .1))) (ann p) (ann (var (s .0))) (annotations-ranged p)
-          (both-r (U (s .0)) (D (s .0)) (pair (s .0) (s .1))));
-    }
+    depends-code : (y : Lit) → In y least → dependent (codeOf y) ≡ dependsOn f (sf p) (var y)
+    depends-code y i = code-depends (sf p) y (stands-ranged p (Memᴰ·map var here)) (least-ranged y i)
+
+    annotation-least : (y : Lit) → In y (ann p) → In y least
+    annotation-least y i = least-annotation f m line clause p y (Memᴰ·map var here) i
+
+    part-in : (y : Lit) → In y mine → In (codeOf y) (keep dependent T)
+    part-in y i = let s = in-keep (λ l. dependsOn f (sf p) (var l)) y least i in keep-in dependent (in-T y (s .0)) (depends-code y (s .0) ∙ s .1)
+
+    annotation-part : (y : Lit) → In y (ann p) → In y mine
+    annotation-part y i = keep-in (λ l. dependsOn f (sf p) (var l)) (annotation-least y i) (proper-depends f m (shown .proper) p y i)
+
+    within-code : all (isIn A) (keep dependent T) ≡ annotatedBy f m line least p
+    within-code = same-test (all (isIn A) (keep dependent T)) (annotatedBy f m line least p)
+        (λ h. and-i (within (ann p) mine) (within mine (ann p)) (in-all (holds mine) (ann p) λ y i. in-holds mine y (annotation-part y i))
+        (in-all (holds (ann p)) mine λ y i. in-holds (ann p) y (code-in (ann p) y (all-in (isIn A) h (part-in y i)))))
+        (λ h. in-all (isIn A) (keep dependent T) λ k i.
+        let q = in-keep dependent k T i in
+        let s = T-in k (q .0) in
+        let d = sym (depends-code (s .0) (s .1)) ∙ ap dependent (s .2) ∙ q .1 in
+        sym (ap (isIn A) (s .2)) ∙ in-code (ann p) (s .0) (holds-in (ann p) (s .0)
+        (all-in (holds (ann p)) (and-r (within (ann p) mine) (within mine (ann p)) h) (keep-in (λ l. dependsOn f (sf p) (var l)) (s .1) d))))
+
+    -- as many literals as t has, or as its part
+    part-code : isPart w T (sf p) (length A) ≡ all (isIn A) (keep dependent T)
+    unfolding isPart partSize
+    part-code = go (eqb (length A) (length T)) refl
       where
-        N : Bool
-        N = all (negationIn w (sf p) (map codeOf (ann p))) C
+        once : distinct T ≡ true
+        once = ap distinct least-code ∙ joined-distinct [] (map codeOf least) refl
 
-        A : Bool
-        A = all (agrees w st nt (codeOf x)) L
+        within-T : (k : ℕ) → In k A → In k (keep dependent T)
+        within-T k i =
+            let s = Memᴰ·of-map codeOf (ann p) i in
+            subst (λ (j : ℕ). In j (keep dependent T)) (s .2) (part-in (s .0) (annotation-part (s .0) (s .1)))
 
-        U : Lit → Bool
-        U z = all (dependentIn w (sf p) (map codeOf (ann p))) (map codeOf (ann (var z)))
+        go : (b : Bool) → eqb (length A) (length T) ≡ b → cond b true (eqb (length (keep dependent T)) (length A)) ≡ all (isIn A) (keep dependent T)
+        go true e =
+            let h : all (isIn A) T ≡ true
+            = sym (same-count A T (annotation-distinct p) once λ k i. in-keep dependent k T (within-T k i) .0)
+            ∙ eq-eqb (length T) (length A) (sym (eqb-true (length A) (length T) e)) in
+            sym (in-all (isIn A) (keep dependent T) λ k i. all-in (isIn A) h (in-keep dependent k T i .0))
+        go false e = same-count A (keep dependent T) (annotation-distinct p) (distinct-keep dependent T once) within-T
 
-        D : Lit → Bool
-        D z = all (dependentIn w (sf (var z)) (map codeOf (ann (var z)))) (map codeOf (ann p))
+    copy-code : copyFits w st nt T (codeOf x) ≡ annotatedBy f m line least p
+    unfolding copyFits
+    copy-code = ap₂ (λ e ls. isPart w T e (length {A = ℕ} ls)) (code-stands x here) (code-annotation x here) ∙ part-code ∙ within-code
 
-        k : cond N A false ≡ true
-        k = sym agreed-code ∙ h
-
-        pair : (z : Lit) → In z line → cond (U z) (D z) false ≡ true
-        pair z i = sym (agrees-code x z member i) ∙ code-at (agrees w st nt (codeOf x)) line (both-r N A k) z i
-
-    tested-agreed : Tested f m line clause p → agreed w st nt L C (codeOf x) ≡ true
-    tested-agreed t =
-        agreed-code
-        ∙ both-i (all (negationIn w (sf p) (map codeOf (ann p))) C) (all (agrees w st nt (codeOf x)) L)
-        (see-negations (sf p) (inRange p here) (ann p) (t .ofClause))
-        (at-code (agrees w st nt (codeOf x)) line λ z i.
-        agrees-code x z member i
-        ∙ both-i (all (dependentIn w (sf p) (map codeOf (ann p))) (map codeOf (ann (var z))))
-        (all (dependentIn w (sf (var z)) (map codeOf (ann (var z)))) (map codeOf (ann p)))
-        (see-dependents (sf p) (inRange p here) (ann (var z)) (ann p) (annotations-ranged (var z)) (λ y k d. t .upper (var z) (Memᴰ·map var i) y k))
-        (see-dependents (sf (var z)) (inRange (var z) (Memᴰ·map var i)) (ann p) (ann (var z)) (annotations-ranged p) (t .lower (var z) (Memᴰ·map var i))))
-
-  -- such a copy, where the line has any
-  pub record Pivot : Type 0 where
-    pub literal : Lit
-    pub member : In literal line
-    pub top : (q : ℕ) → In q (vars line) → (u : ℕ) → dependsOn f (sf q) u ≡ true → dependsOn f (sf (var literal)) u ≡ true
-    pub fits : annotationsFit w st nt L C ≡ agreed w st nt L C (codeOf literal)
-
-  nested-top : (p q : ℕ) → In p (vars line) → In q (vars line) → nested w (sf q) (sf p) ≡ true
-      → (u : ℕ) → dependsOn f (sf q) u ≡ true → dependsOn f (sf p) u ≡ true
-  nested-top p q i k h u d =
-      let r = depends-ranged (sf q) u d in
-      sym (told-depends prefix n f (shown .told) (sf p) u (stands-ranged p i) r)
-      ∙ nested-depends w (sf q) (sf p) u h (told-depends prefix n f (shown .told) (sf q) u (stands-ranged q k) r ∙ d)
-
-  pivot : (x : Lit) (ls : Lits) → line ≡ x ∷ ls → Pivot
-  unfolding annotationsFit
-  pivot x ls e =
-      let s = Memᴰ·of-map codeOf line among in record {
-        literal = s .0;
-        member = s .1;
-        top = λ q i.
-            let z = Memᴰ·of-map var line i in
-            nested-top (var (s .0)) q (Memᴰ·map var (s .1)) i
-            (subst (λ (v : ℕ). nested w (sf v) (sf (var (s .0))) ≡ true) (z .2)
-            (sym (ap₂ (nested w) (code-stands (z .0) (z .1)) (ap (λ y. st (y / 2)) (sym (s .2)) ∙ code-stands (s .0) (s .1)))
-            ∙ rightmost-top w st (codeOf x) L (codeOf (z .0)) (Memᴰ·map codeOf (z .1))));
-        fits =
-            subst (λ (ln : Lits). annotationsFit w st nt (map codeOf ln) C ≡ agreed w st nt (map codeOf ln) C (rightmost w st (codeOf x) (map codeOf ln)))
-            (sym e) refl ∙ ap (agreed w st nt L C) (sym (s .2));
-      }
-    where
-      among : In (rightmost w st (codeOf x) L) L
-      among =
-          subst (λ (ln : Lits). In (rightmost w st (codeOf x) (map codeOf ln)) (map codeOf ln)) (sym e) (rightmost-in w st (codeOf x) (map codeOf ls))
-
-  module _ (h : literalsFit w st L C ≡ true) (k : annotationsFit w st nt L C ≡ true) where
-    fit-says : Says f m line clause
-    fit-says = go line refl
-      where
-        go : (ls : Lits) → line ≡ ls → Says f m line clause
-        go [] e =
-            let none : (q : ℕ) → In q (vars line) → ⊥ = λ q i. List·Memᴰ·not-nil (subst (λ (ln : Lits). In q (vars ln)) e i) in
-            record {
-              oneSigned = fit-one h;
-              literals = fit-literals h;
-              closedClause = λ q i. absurd (none q i);
-              closedAnnotations = λ q r i. absurd (none q i);
-            }
-        go (x ∷ ls) e =
-            let p = pivot x ls e in
-            tested-says f m (shown .proper) line clause (var (p .literal)) (Memᴰ·map var (p .member)) (p .top) (fit-one h) (fit-literals h)
-            (agreed-tested (p .literal) (p .member) (p .top) (sym (p .fits) ∙ k))
-
-  says-annotations : Says f m line clause → annotationsFit w st nt L C ≡ true
-  unfolding annotationsFit
-  says-annotations s = go line refl
-    where
-      go : (ls : Lits) → line ≡ ls → annotationsFit w st nt L C ≡ true
-      go [] e = ap (λ (ln : Lits). annotationsFit w st nt (map codeOf ln) C) e
-      go (x ∷ ls) e =
-          let p = pivot x ls e in
-          p .fits ∙ tested-agreed (p .literal) (p .member) (p .top)
-          (says-tested f m (shown .proper) line clause (var (p .literal)) (Memᴰ·map var (p .member)) (p .top) s)
-
+  -- ALL OF THE TEST
   codes-expand : expandsCodes w st nt L C ≡ expands f m line clause
-  unfolding expandsCodes
+  unfolding expandsCodes annotationsFit expandsByLeast expandsBy
   codes-expand =
-      same-test (expandsCodes w st nt L C) (expands f m line clause)
-      (λ q. says .1 (fit-says (both-l (literalsFit w st L C) (annotationsFit w st nt L C) q) (both-r (literalsFit w st L C) (annotationsFit w st nt L C) q)))
-      (λ e. both-i (literalsFit w st L C) (annotationsFit w st nt L C) (says-fit (says .0 e)) (says-annotations (says .0 e)))
+      ap₂ (λ a r. cond a r false) literals-code (ap₂ (λ b d. cond b d false) apart-code (all-codes (copyFits w st nt T) (annotatedBy f m line least) line copy-code))
+      ∙ go (sameLiterals f m line clause) (not (bothSigns least)) (all (annotatedBy f m line least) (vars line))
+      ∙ ap (λ k. not (bothSigns least) && ((k && sameLiterals f m line clause) && all (annotatedBy f m line least) (vars line))) (sym false-in-least)
+      ∙ sym (expands-least f m line clause (shown .proper) (shown .told .once))
     where
-      says : (expands f m line clause ≡ true) ↔ Says f m line clause
-      says = expands-says f m (shown .proper) line clause (shown .told .once)
+      false-in-least : falsifies f m line least clause ≡ true
+      false-in-least = in-all (λ l. holds least (negate l)) (universals f clause) λ y i.
+          let s = in-keep (λ l. universal f (var l)) y clause i in
+          in-holds least (negate y) (least-universal f m line clause y (s .0) (s .1))
+
+      go : (a b d : Bool) → cond a (cond b d false) false ≡ b && ((true && a) && d)
+      go true true d = refl
+      go true false d = refl
+      go false true d = refl
+      go false false d = refl
 
   pub tables-expand : expandsAt prefix values maps proof l matrix c ≡ expands f m line clause
   unfolding expandsAt

@@ -1,6 +1,9 @@
--- Laws of walks, of marks, and the meaning of the test.
+-- Laws of walks, of marks, of the least t, of the clauses' places, and the meaning of the test.
 pub mod Walks
 pub mod MarkLaws
+pub mod HeldLaws
 pub mod Arms
-pub mod Pivot
+pub mod Counting
 pub mod Laws
+pub mod IndexLaws
+pub mod ClauseLaws

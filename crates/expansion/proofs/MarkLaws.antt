@@ -73,7 +73,7 @@ module _ (t : List ℤ) (i : ℕ) (s : List ℕ) {r : ℕ} (e : r ≡ codeAt t i
     unfolding marks imagesOf
     images-next h = ap (λ l. marks (imagesOf st l) s) (more t i e h)
 
-getD-zeros : (n y : ℕ) → getD {A = ℕ} (replicate n 0) y 0 ≡ 0
+pub getD-zeros : (n y : ℕ) → getD {A = ℕ} (replicate n 0) y 0 ≡ 0
 getD-zeros zero y = refl
 getD-zeros (suc n) zero = refl
 getD-zeros (suc n) (suc y) = getD-zeros n y

@@ -1,13 +1,18 @@
 -- THE EXPANSION TEST OVER LISTS OF CODES, and where the tables have what it reads. Assumes nothing.
 use mathlib.Core.Bool.{Bool, true, false, cond, not}
-use mathlib.Core.List.{List, [], _∷_, map}
-use Prim.Native.Nat.{ℕ, _+_, _*_, _/_, _%_}
+use mathlib.Core.List.{List, [], _∷_, _++_, map}
+use Prim.Native.Nat.{ℕ, _+_, _*_, _-_, _/_, _%_}
+use denote.Ref.{RefT, now}
+use lib.Dec.{eqb}
 use lib.IntN.{ℤ}
-use Rattle.lines.specs.Lists.{all}
+use lib.ListN.{length}
+use Rattle.lines.specs.Lists.{all, keep}
 use Rattle.cells.specs.Cells.{cellAt, listAt}
 use Rattle.rules.specs.Basics.{isIn}
 use Rattle.rules.specs.Codes.{flip}
-use Rattle.prefix.specs.Prefix.{entry, isUniversal, isExistential, dependency, nested}
+use Rattle.prefix.specs.Prefix.{entry, isUniversal, isExistential, dependency}
+use Rattle.expansion.specs.Marks.{joined}
+use Rattle.expansion.specs.Index.{placeAt, anyFrom}
 
 -- A COPY'S MAPPING: its place in the values has a place of the map, where its existential stands and then the place of its annotation
 module _ (values maps : List ℤ) where
@@ -27,19 +32,31 @@ imageOf st x = 2 * st (x / 2) + x % 2
 unfoldable pub imagesOf : (ℕ → ℕ) → List ℕ → List ℕ
 imagesOf st ls = map (imageOf st) ls
 
+-- t does not hold the negation of y; it holds no literal together with its negation
+unfoldable pub alone : List ℕ → ℕ → Bool
+alone t y = not (isIn t (flip y))
+
+unfoldable pub apart : List ℕ → Bool
+apart t = all (alone t) t
+
+-- the annotations of the line's copies; nt gives each copy's
+unfoldable pub annotationsOf : (ℕ → List ℕ) → List ℕ → List ℕ
+annotationsOf nt [] = []
+annotationsOf nt (x ∷ ls) = nt (x / 2) ++ annotationsOf nt ls
+
 -- w gives each variable's word of the prefix table
 module _ (w : ℕ → ℕ) where
-  -- if y is universal, its negation is not in the clause
-  unfoldable pub oneSigned : List ℕ → ℕ → Bool
-  oneSigned cs y = cond (isUniversal w (y / 2)) (not (isIn cs (flip y))) true
+  -- the negations of the clause's universal literals
+  unfoldable pub negations : List ℕ → List ℕ
+  negations cs = map flip (keep (λ y. isUniversal w (y / 2)) cs)
 
-  -- if e depends on y, it is among zs
-  unfoldable pub dependentIn : ℕ → List ℕ → ℕ → Bool
-  dependentIn e zs y = cond (dependency w e (y / 2)) (isIn zs y) true
+  -- the size of the part of t over universals that e depends on
+  unfoldable pub partSize : List ℕ → ℕ → ℕ
+  partSize t e = length (keep (λ y. dependency w e (y / 2)) t)
 
-  -- if e depends on y, its negation is among zs
-  unfoldable pub negationIn : ℕ → List ℕ → ℕ → Bool
-  negationIn e zs y = cond (dependency w e (y / 2)) (isIn zs (flip y)) true
+  -- k literals within that part are all of it: they are as many, or all of t
+  unfoldable pub isPart : List ℕ → ℕ → ℕ → Bool
+  isPart t e k = cond (eqb k (length t)) true (eqb (partSize t e) k)
 
   -- st gives each copy's existential
   module _ (st : ℕ → ℕ) where
@@ -56,33 +73,21 @@ module _ (w : ℕ → ℕ) where
     unfoldable pub inLine : List ℕ → ℕ → Bool
     inLine ls y = cond (isExistential w (y / 2)) (isIn (imagesOf st ls) y) true
 
-    -- the line's literals are the clause's existential ones, and t can make the clause's universal ones false
+    -- the line's literals are the clause's existential ones
     unfoldable pub literalsFit : List ℕ → List ℕ → Bool
-    literalsFit ls cs = cond (all (inClause cs) ls) (cond (all (inLine ls) cs) (all (oneSigned cs) cs) false) false
+    literalsFit ls cs = cond (all (inClause cs) ls) (all (inLine ls) cs) false
 
-    -- of p and x the one whose existential stands further right
-    unfoldable pub further : ℕ → ℕ → ℕ
-    further p x = cond (nested w (st (p / 2)) (st (x / 2))) x p
-
-    unfoldable pub rightmost : ℕ → List ℕ → ℕ
-    rightmost p [] = p
-    rightmost p (x ∷ ls) = rightmost (further p x) ls
-
-    -- nt gives each copy's annotation
     module _ (nt : ℕ → List ℕ) where
-      -- the annotations of p and x are the same as far as the existentials of both depend on them
-      unfoldable pub agrees : ℕ → ℕ → Bool
-      agrees p x =
-          cond (all (dependentIn (st (p / 2)) (nt (p / 2))) (nt (x / 2))) (all (dependentIn (st (x / 2)) (nt (x / 2))) (nt (p / 2))) false
+      -- what every t holds: the negations of the clause's universal literals and the annotations of the line's copies, each literal once
+      unfoldable pub leastOf : List ℕ → List ℕ → List ℕ
+      leastOf ls cs = joined [] (negations cs ++ annotationsOf nt ls)
 
-      -- p's annotation makes the clause false as far as its existential sees, and every copy's agrees with it
-      unfoldable pub agreed : List ℕ → List ℕ → ℕ → Bool
-      agreed ls cs p = cond (all (negationIn (st (p / 2)) (nt (p / 2))) cs) (all (agrees p) ls) false
+      -- the annotation of x's copy, which lies within its existential's part of t, is all of it
+      unfoldable pub copyFits : List ℕ → ℕ → Bool
+      copyFits t x = isPart t (st (x / 2)) (length (nt (x / 2)))
 
-      -- every copy is compared with the one whose existential stands rightmost: with no other is there a need
       unfoldable pub annotationsFit : List ℕ → List ℕ → Bool
-      annotationsFit [] cs = true
-      annotationsFit (x ∷ ls) cs = agreed (x ∷ ls) cs (rightmost x (x ∷ ls))
+      annotationsFit ls cs = cond (apart (leastOf ls cs)) (all (copyFits (leastOf ls cs)) ls) false
 
       -- the line ls is an expansion of the clause cs
       unfoldable pub expandsCodes : List ℕ → List ℕ → Bool
@@ -92,3 +97,23 @@ module _ (w : ℕ → ℕ) where
 unfoldable pub expandsAt : List ℤ → List ℤ → List ℤ → List ℤ → ℕ → List ℤ → ℕ → Bool
 expandsAt prefix values maps proof l matrix c =
     expandsCodes (entry prefix) (standsOf values maps) (annotationOf values maps) (listAt proof l) (listAt matrix c)
+
+-- of clause n, counted from 1; of one of the first c clauses
+unfoldable pub expandsNamed : List ℤ → List ℤ → List ℤ → List ℤ → ℕ → List ℤ → List ℕ → ℕ → Bool
+expandsNamed prefix values maps proof l matrix starts n = expandsAt prefix values maps proof l matrix (placeAt starts (n - 1))
+
+unfoldable pub expandsAny : List ℤ → List ℤ → List ℤ → List ℤ → ℕ → List ℤ → List ℕ → ℕ → Bool
+expandsAny prefix values maps proof l matrix starts c = anyFrom (expandsAt prefix values maps proof l matrix) starts 0 c
+
+-- THE SAME OF LENT TABLES, for contracts
+abbrev pub words : RefT (List ℤ) → ℕ → ℕ
+words prefix = entry (now prefix)
+
+abbrev pub standsIn : RefT (List ℤ) → RefT (List ℤ) → ℕ → ℕ
+standsIn values maps = standsOf (now values) (now maps)
+
+abbrev pub annotationIn : RefT (List ℤ) → RefT (List ℤ) → ℕ → List ℕ
+annotationIn values maps = annotationOf (now values) (now maps)
+
+abbrev pub listIn : RefT (List ℤ) → ℕ → List ℕ
+listIn t i = listAt (now t) i

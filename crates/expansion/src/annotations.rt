@@ -1,216 +1,143 @@
-// The annotations of the line's copies against the clause's universals and each other.
+// The annotations of the line's copies against the least t: each as long as the part of t that the copy's existential depends on.
 use crate::copies;
-use crate::literals;
-use crate::marks;
+use crate::least;
+use crate::least::Listing;
+use crate::marks::CODES;
 use crate::read;
 ghost use mathlib.Core.Path.{_≡_};
-ghost use Prim.Native.Nat.{_/_, _<_};
+ghost use mathlib.Core.List.{[], _∷_};
+ghost use Prim.Native.Nat.{_+_, _<_, _≤_};
+ghost use lib.ListN.{length};
 ghost use Rattle.lines.specs.Lists.{all};
-ghost use Rattle.cells.specs.Cells.{listAt};
-ghost use Rattle.prefix.specs.Prefix.{entry};
-ghost use Rattle.expansion.specs.Marks.{Marked};
-ghost use Rattle.expansion.specs.Codes.{standsOf, annotationOf, dependentIn, negationIn, further, rightmost, agrees, agreed, annotationsFit};
+ghost use Rattle.expansion.specs.Marks.{listed, Noted};
+ghost use Rattle.expansion.specs.Codes.{partSize, isPart, copyFits, annotationsFit, words, standsIn, annotationIn, listIn};
 
-// If e depends on literal y, it is among the literals from place b on, which are marked.
-fn dependent_in(
-    seen: &[u8; 8194],
-    prefix: &[i32],
-    e: usize,
-    map: &[i32],
-    b: usize,
-    y: usize,
-) -> bool
-    requires { ⌜ Marked (now seen) (listAt (now map) b) ⌝ }
-    ensures { λ r. ⌜ r ≡ dependentIn (entry (now (prefix .entry))) e (listAt (now (map .entry)) b) y ⌝ }
+// A formula's variables lie below this.
+const VARIABLES: usize = 4097;
+
+// For each existential one more than the size of its part of t, or 0 if that was not counted yet.
+type Sizes = [u16; VARIABLES];
+
+// k, and one more if e depends on literal y.
+fn tally(prefix: &[i32], e: usize, y: usize, k: usize) -> usize
+    requires { ⌜ k < 65536 ⌝ }
+    ensures { λ r. ⌜ r ≡ k + partSize (words (prefix .entry)) (y ∷ []) e ⌝ }
 {
     if prefix::depends(prefix, e, y / 2) {
-        return marks::marked(seen, map, b, y);
+        return k + 1;
     }
-    true
+    k
 }
 
-// Of the literals from place a on, those that e depends on are among those from place b on.
-fn dependents_in(
-    seen: &[u8; 8194],
+// How many literals of t are of universals that e depends on; t is listed in the first n places.
+fn part_size(prefix: &[i32], held: &Listing, n: usize, e: usize) -> usize
+    requires { ⌜ n ≤ 8194 ⌝ }
+    ensures { λ r. ⌜ (r ≡ partSize (words (prefix .entry)) (listed (now (held .entry)) n) e) × (r ≤ 8194) ⌝ }
+{
+    let mut k: usize = 0;
+    let mut i = n;
+    while 0 < i {
+        i -= 1;
+        k = tally(prefix, e, least::wide(held[i]), k);
+    }
+    k
+}
+
+// The same, counted once for each existential.
+fn size_of(sizes: &mut Sizes, prefix: &[i32], held: &Listing, n: usize, e: usize) -> usize
+    requires { ⌜ (n ≤ 8194) × Noted (partSize (words prefix) (listed (now held) n)) (now sizes) ⌝ }
+    ensures { λ r. ⌜ (r ≡ partSize (words (prefix .entry)) (listed (now (held .entry)) n) e)
+        × Noted (partSize (words (prefix .entry)) (listed (now (held .entry)) n)) (now (sizes .exit)) ⌝ }
+{
+    if e < VARIABLES {
+        let k = least::wide(sizes[e]);
+        if k != 0 {
+            return k - 1;
+        }
+        let s = part_size(prefix, held, n, e);
+        sizes[e] = (s + 1) as u16;
+        return s;
+    }
+    part_size(prefix, held, n, e)
+}
+
+// Whether `long` literals within e's part of t are all of it.
+fn is_part(
+    sizes: &mut Sizes,
     prefix: &[i32],
+    held: &Listing,
+    n: usize,
     e: usize,
-    map: &[i32],
-    a: usize,
-    b: usize,
+    long: usize,
 ) -> bool
-    requires { ⌜ Marked (now seen) (listAt (now map) b) ⌝ }
-    ensures { λ r. ⌜ r ≡ all (dependentIn (entry (now (prefix .entry))) e (listAt (now (map .entry)) b)) (listAt (now (map .entry)) a) ⌝ }
+    requires { ⌜ (n ≤ 8194) × Noted (partSize (words prefix) (listed (now held) n)) (now sizes) ⌝ }
+    ensures { λ r. ⌜ (r ≡ isPart (words (prefix .entry)) (listed (now (held .entry)) n) e long)
+        × Noted (partSize (words (prefix .entry)) (listed (now (held .entry)) n)) (now (sizes .exit)) ⌝ }
+{
+    if long == n {
+        return true;
+    }
+    size_of(sizes, prefix, held, n, e) == long
+}
+
+// How many literals there are from place a of the map on.
+fn length_at(map: &[i32], a: usize) -> usize
+    ensures { λ r. ⌜ r ≡ length (listIn (map .entry) a) ⌝ }
 {
     let mut i = a;
     loop {
         let y = read::code(map, i);
         if y == 0 {
-            return true;
+            return i - a;
         }
-        if dependent_in(seen, prefix, e, map, b, y) {
-            i += 1;
-        } else {
-            return false;
-        }
-    }
-}
-
-// If e depends on literal y, its negation is among the literals from place b on.
-fn negation_in(seen: &[u8; 8194], prefix: &[i32], e: usize, map: &[i32], b: usize, y: usize) -> bool
-    requires { ⌜ Marked (now seen) (listAt (now map) b) × (y < 65536) ⌝ }
-    ensures { λ r. ⌜ r ≡ negationIn (entry (now (prefix .entry))) e (listAt (now (map .entry)) b) y ⌝ }
-{
-    let z = literals::negated(y);
-    if prefix::depends(prefix, e, y / 2) {
-        return marks::marked(seen, map, b, z);
-    }
-    true
-}
-
-// The negations of the clause's literals that e depends on are among the literals from place b on.
-fn negations_in(
-    seen: &[u8; 8194],
-    prefix: &[i32],
-    e: usize,
-    map: &[i32],
-    b: usize,
-    matrix: &[i32],
-    c: usize,
-) -> bool
-    requires { ⌜ Marked (now seen) (listAt (now map) b) ⌝ }
-    ensures { λ r. ⌜ r ≡ all (negationIn (entry (now (prefix .entry))) e (listAt (now (map .entry)) b)) (listAt (now (matrix .entry)) c) ⌝ }
-{
-    let mut i = c;
-    loop {
-        let y = read::code(matrix, i);
-        if y == 0 {
-            return true;
-        }
-        if negation_in(seen, prefix, e, map, b, y) {
-            i += 1;
-        } else {
-            return false;
-        }
-    }
-}
-
-// Of the literals p and x the one whose existential stands further right.
-fn further(prefix: &[i32], values: &[i32], map: &[i32], p: usize, x: usize) -> usize
-    ensures { λ r. ⌜ r ≡ further (entry (now (prefix .entry))) (standsOf (now (values .entry)) (now (map .entry))) p x ⌝ }
-{
-    let e = copies::stands(values, map, p / 2);
-    let g = copies::stands(values, map, x / 2);
-    if prefix::nested(prefix, e, g) {
-        return x;
-    }
-    p
-}
-
-// The literal of the line whose existential stands rightmost.
-fn rightmost(
-    prefix: &[i32],
-    values: &[i32],
-    map: &[i32],
-    proof: &[i32],
-    l: usize,
-    p: usize,
-) -> usize
-    ensures { λ r. ⌜ r ≡ rightmost (entry (now (prefix .entry))) (standsOf (now (values .entry)) (now (map .entry))) p (listAt (now (proof .entry)) l) ⌝ }
-{
-    let mut best = p;
-    let mut i = l;
-    loop {
-        let x = read::code(proof, i);
-        if x == 0 {
-            return best;
-        }
-        best = further(prefix, values, map, best, x);
         i += 1;
     }
 }
 
-// The annotation at place a holds what e depends on of the one at place b.
-fn holds_dependents(prefix: &[i32], e: usize, map: &[i32], a: usize, b: usize) -> bool
-    ensures { λ r. ⌜ r ≡ all (dependentIn (entry (now (prefix .entry))) e (listAt (now (map .entry)) a)) (listAt (now (map .entry)) b) ⌝ }
+// The same where there are `long` from place `last` on: copies of one mapping line share the place of their annotation.
+fn length_next(map: &[i32], last: usize, long: usize, a: usize) -> usize
+    requires { ⌜ long ≡ length (listIn map last) ⌝ }
+    ensures { λ r. ⌜ r ≡ length (listIn (map .entry) a) ⌝ }
 {
-    let mut own = [0u8; 8194];
-    marks::mark(&mut own, map, a);
-    dependents_in(&own, prefix, e, map, b, a)
+    if a == last {
+        return long;
+    }
+    length_at(map, a)
 }
 
-// The copies of p and x are annotated alike as far as their existentials depend on it; p's annotation is marked. Copies of one mapping
-// line share the place of their annotation.
-fn agrees(
-    seen: &[u8; 8194],
-    prefix: &[i32],
-    values: &[i32],
-    map: &[i32],
-    p: usize,
-    x: usize,
-) -> bool
-    requires { ⌜ Marked (now seen) (annotationOf (now values) (now map) (p / 2)) ⌝ }
-    ensures { λ r. ⌜ r ≡ agrees (entry (now (prefix .entry))) (standsOf (now (values .entry)) (now (map .entry))) (annotationOf (now (values .entry)) (now (map .entry))) p x ⌝ }
-{
-    let a = copies::annotation_at(values, map, x / 2);
-    let b = copies::annotation_at(values, map, p / 2);
-    if a == b {
-        return true;
-    }
-    if dependents_in(seen, prefix, copies::stands(values, map, p / 2), map, a, b) {
-        return holds_dependents(prefix, copies::stands(values, map, x / 2), map, a, b);
-    }
-    false
-}
-
-// The copies of the line are annotated as that of p.
-fn line_agrees(
-    seen: &[u8; 8194],
+// Each copy's annotation is as long as its part of t.
+fn copies_fit(
     prefix: &[i32],
     values: &[i32],
     map: &[i32],
     proof: &[i32],
     l: usize,
-    p: usize,
+    held: &Listing,
+    n: usize,
 ) -> bool
-    requires { ⌜ Marked (now seen) (annotationOf (now values) (now map) (p / 2)) ⌝ }
-    ensures { λ r. ⌜ r ≡ all (agrees (entry (now (prefix .entry))) (standsOf (now (values .entry)) (now (map .entry))) (annotationOf (now (values .entry)) (now (map .entry))) p) (listAt (now (proof .entry)) l) ⌝ }
+    requires { ⌜ n ≤ 8194 ⌝ }
+    ensures { λ r. ⌜ r ≡ all (copyFits (words (prefix .entry)) (standsIn (values .entry) (map .entry))
+        (annotationIn (values .entry) (map .entry)) (listed (now (held .entry)) n)) (listIn (proof .entry) l) ⌝ }
 {
+    let mut sizes = [0u16; VARIABLES];
+    let mut last = map.len();
+    let mut long: usize = 0;
     let mut i = l;
     loop {
         let x = read::code(proof, i);
         if x == 0 {
             return true;
         }
-        if agrees(seen, prefix, values, map, p, x) {
+        let a = copies::annotation_at(values, map, x / 2);
+        long = length_next(map, last, long, a);
+        last = a;
+        let e = copies::stands(values, map, x / 2);
+        if is_part(&mut sizes, prefix, held, n, e, long) {
             i += 1;
         } else {
             return false;
         }
     }
-}
-
-// The annotation of p's copy makes the clause's universal literals false as far as its existential depends on them, and the line agrees
-// with it.
-fn agreed(
-    prefix: &[i32],
-    values: &[i32],
-    map: &[i32],
-    proof: &[i32],
-    l: usize,
-    matrix: &[i32],
-    c: usize,
-    p: usize,
-) -> bool
-    ensures { λ r. ⌜ r ≡ agreed (entry (now (prefix .entry))) (standsOf (now (values .entry)) (now (map .entry))) (annotationOf (now (values .entry)) (now (map .entry))) (listAt (now (proof .entry)) l) (listAt (now (matrix .entry)) c) p ⌝ }
-{
-    let b = copies::annotation_at(values, map, p / 2);
-    let mut seen = [0u8; 8194];
-    marks::mark(&mut seen, map, b);
-    let e = copies::stands(values, map, p / 2);
-    if negations_in(&seen, prefix, e, map, b, matrix, c) {
-        return line_agrees(&seen, prefix, values, map, proof, l, p);
-    }
-    false
 }
 
 // The line's copies are annotated by one assignment that makes the clause's universal literals false.
@@ -223,12 +150,15 @@ pub fn annotations_fit(
     matrix: &[i32],
     c: usize,
 ) -> bool
-    ensures { λ r. ⌜ r ≡ annotationsFit (entry (now (prefix .entry))) (standsOf (now (values .entry)) (now (map .entry))) (annotationOf (now (values .entry)) (now (map .entry))) (listAt (now (proof .entry)) l) (listAt (now (matrix .entry)) c) ⌝ }
+    ensures { λ r. ⌜ r ≡ annotationsFit (words (prefix .entry)) (standsIn (values .entry) (map .entry))
+        (annotationIn (values .entry) (map .entry)) (listIn (proof .entry) l) (listIn (matrix .entry) c) ⌝ }
 {
-    let x = read::code(proof, l);
-    if x == 0 {
-        return true;
+    let mut seen = [0u8; CODES];
+    let mut held = [0u16; CODES];
+    let k = least::join_negations(&mut seen, &mut held, 0, prefix, matrix, c);
+    let n = least::join_annotations(&mut seen, &mut held, k, values, map, proof, l);
+    if least::one_signed(&seen, &held, n) {
+        return copies_fit(prefix, values, map, proof, l, &held, n);
     }
-    let p = rightmost(prefix, values, map, proof, l, x);
-    agreed(prefix, values, map, proof, l, matrix, c, p)
+    false
 }

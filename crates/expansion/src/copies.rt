@@ -1,16 +1,17 @@
 // What the values and the map say of a copy.
 use crate::marks;
+use crate::marks::CODES;
+use crate::marks::Seen;
 use crate::read;
 ghost use mathlib.Core.Path.{_≡_};
 ghost use Prim.Native.Nat.{_<_};
-ghost use Rattle.cells.specs.Cells.{listAt};
 ghost use Rattle.rules.specs.Basics.{isIn};
 ghost use Rattle.expansion.specs.Marks.{marks, Marked};
-ghost use Rattle.expansion.specs.Codes.{standsOf, annotationAt, imageOf, imagesOf};
+ghost use Rattle.expansion.specs.Codes.{annotationAt, imageOf, imagesOf, standsIn, listIn};
 
 // The existential that copy p stands for.
 pub fn stands(values: &[i32], map: &[i32], p: usize) -> usize
-    ensures { λ r. ⌜ (r ≡ standsOf (now (values .entry)) (now (map .entry)) p) × (r < 4294967296) ⌝ }
+    ensures { λ r. ⌜ (r ≡ standsIn (values .entry) (map .entry) p) × (r < 4294967296) ⌝ }
 {
     read::cell(map, read::word(values, p))
 }
@@ -24,14 +25,15 @@ pub fn annotation_at(values: &[i32], map: &[i32], p: usize) -> usize
 
 // The literal x with its copy replaced by the copy's existential and its sign kept.
 pub fn image(values: &[i32], map: &[i32], x: usize) -> usize
-    ensures { λ r. ⌜ r ≡ imageOf (standsOf (now (values .entry)) (now (map .entry))) x ⌝ }
+    ensures { λ r. ⌜ r ≡ imageOf (standsIn (values .entry) (map .entry)) x ⌝ }
 {
     2 * stands(values, map, x / 2) + x % 2
 }
 
 // Marks what the line's literals stand for.
-pub fn mark_images(seen: &mut [u8; 8194], values: &[i32], map: &[i32], proof: &[i32], l: usize)
-    ensures { λ _. ⌜ now (seen .exit) ≡ marks (imagesOf (standsOf (now (values .entry)) (now (map .entry))) (listAt (now (proof .entry)) l)) (now (seen .entry)) ⌝ }
+pub fn mark_images(seen: &mut Seen, values: &[i32], map: &[i32], proof: &[i32], l: usize)
+    ensures { λ _. ⌜ now (seen .exit)
+        ≡ marks (imagesOf (standsIn (values .entry) (map .entry)) (listIn (proof .entry) l)) (now (seen .entry)) ⌝ }
 {
     let mut i = l;
     loop {
@@ -46,7 +48,7 @@ pub fn mark_images(seen: &mut [u8; 8194], values: &[i32], map: &[i32], proof: &[
 
 // Whether a literal of the line stands for y, without marks.
 fn has_image(values: &[i32], map: &[i32], proof: &[i32], l: usize, y: usize) -> bool
-    ensures { λ r. ⌜ r ≡ isIn (imagesOf (standsOf (now (values .entry)) (now (map .entry))) (listAt (now (proof .entry)) l)) y ⌝ }
+    ensures { λ r. ⌜ r ≡ isIn (imagesOf (standsIn (values .entry) (map .entry)) (listIn (proof .entry) l)) y ⌝ }
 {
     let mut i = l;
     loop {
@@ -63,17 +65,17 @@ fn has_image(values: &[i32], map: &[i32], proof: &[i32], l: usize, y: usize) -> 
 
 // The same where what they stand for is marked.
 pub fn stood_for(
-    seen: &[u8; 8194],
+    seen: &Seen,
     values: &[i32],
     map: &[i32],
     proof: &[i32],
     l: usize,
     y: usize,
 ) -> bool
-    requires { ⌜ Marked (now seen) (imagesOf (standsOf (now values) (now map)) (listAt (now proof) l)) ⌝ }
-    ensures { λ r. ⌜ r ≡ isIn (imagesOf (standsOf (now (values .entry)) (now (map .entry))) (listAt (now (proof .entry)) l)) y ⌝ }
+    requires { ⌜ Marked (now seen) (imagesOf (standsIn values map) (listIn proof l)) ⌝ }
+    ensures { λ r. ⌜ r ≡ isIn (imagesOf (standsIn (values .entry) (map .entry)) (listIn (proof .entry) l)) y ⌝ }
 {
-    if y < 8194 {
+    if y < CODES {
         return seen[y] == 1;
     }
     has_image(values, map, proof, l, y)

@@ -1,23 +1,13 @@
-// The line's literals against the clause's, and the signs of the clause's universals.
+// The line's literals against the clause's.
 use crate::copies;
 use crate::marks;
+use crate::marks::CODES;
+use crate::marks::Seen;
 use crate::read;
 ghost use mathlib.Core.Path.{_≡_};
-ghost use Prim.Native.Nat.{_<_};
 ghost use Rattle.lines.specs.Lists.{all};
-ghost use Rattle.cells.specs.Cells.{listAt};
-ghost use Rattle.rules.specs.Codes.{flip};
-ghost use Rattle.prefix.specs.Prefix.{entry};
 ghost use Rattle.expansion.specs.Marks.{Marked};
-ghost use Rattle.expansion.specs.Codes.{standsOf, imagesOf, oneSigned, inClause, firstIn, inLine, literalsFit};
-
-// The code of the negation.
-pub fn negated(y: usize) -> usize
-    requires { ⌜ y < 65536 ⌝ }
-    ensures { λ r. ⌜ r ≡ flip y ⌝ }
-{
-    (y + 1) - 2 * (y % 2)
-}
+ghost use Rattle.expansion.specs.Codes.{imagesOf, inClause, firstIn, inLine, literalsFit, words, standsIn, listIn};
 
 // Without marks: most clauses that do not fit are told by the line's first literal.
 pub fn first_in_clause(
@@ -29,7 +19,8 @@ pub fn first_in_clause(
     matrix: &[i32],
     c: usize,
 ) -> bool
-    ensures { λ r. ⌜ r ≡ firstIn (entry (now (prefix .entry))) (standsOf (now (values .entry)) (now (map .entry))) (listAt (now (matrix .entry)) c) (listAt (now (proof .entry)) l) ⌝ }
+    ensures { λ r. ⌜ r ≡ firstIn (words (prefix .entry)) (standsIn (values .entry) (map .entry))
+        (listIn (matrix .entry) c) (listIn (proof .entry) l) ⌝ }
 {
     let x = read::code(proof, l);
     if x == 0 {
@@ -43,7 +34,7 @@ pub fn first_in_clause(
 
 // The literal x stands for an existential literal of the clause, whose codes are marked.
 fn in_clause(
-    seen: &[u8; 8194],
+    seen: &Seen,
     prefix: &[i32],
     values: &[i32],
     map: &[i32],
@@ -51,8 +42,8 @@ fn in_clause(
     c: usize,
     x: usize,
 ) -> bool
-    requires { ⌜ Marked (now seen) (listAt (now matrix) c) ⌝ }
-    ensures { λ r. ⌜ r ≡ inClause (entry (now (prefix .entry))) (standsOf (now (values .entry)) (now (map .entry))) (listAt (now (matrix .entry)) c) x ⌝ }
+    requires { ⌜ Marked (now seen) (listIn matrix c) ⌝ }
+    ensures { λ r. ⌜ r ≡ inClause (words (prefix .entry)) (standsIn (values .entry) (map .entry)) (listIn (matrix .entry) c) x ⌝ }
 {
     if prefix::existential(prefix, copies::stands(values, map, x / 2)) {
         return marks::marked(seen, matrix, c, copies::image(values, map, x));
@@ -61,7 +52,7 @@ fn in_clause(
 }
 
 fn line_in_clause(
-    seen: &[u8; 8194],
+    seen: &Seen,
     prefix: &[i32],
     values: &[i32],
     map: &[i32],
@@ -70,8 +61,9 @@ fn line_in_clause(
     matrix: &[i32],
     c: usize,
 ) -> bool
-    requires { ⌜ Marked (now seen) (listAt (now matrix) c) ⌝ }
-    ensures { λ r. ⌜ r ≡ all (inClause (entry (now (prefix .entry))) (standsOf (now (values .entry)) (now (map .entry))) (listAt (now (matrix .entry)) c)) (listAt (now (proof .entry)) l) ⌝ }
+    requires { ⌜ Marked (now seen) (listIn matrix c) ⌝ }
+    ensures { λ r. ⌜ r ≡ all (inClause (words (prefix .entry)) (standsIn (values .entry) (map .entry))
+        (listIn (matrix .entry) c)) (listIn (proof .entry) l) ⌝ }
 {
     let mut i = l;
     loop {
@@ -89,7 +81,7 @@ fn line_in_clause(
 
 // If literal y is existential, one of the line stands for it; what they stand for is marked.
 fn in_line(
-    images: &[u8; 8194],
+    images: &Seen,
     prefix: &[i32],
     values: &[i32],
     map: &[i32],
@@ -97,8 +89,8 @@ fn in_line(
     l: usize,
     y: usize,
 ) -> bool
-    requires { ⌜ Marked (now images) (imagesOf (standsOf (now values) (now map)) (listAt (now proof) l)) ⌝ }
-    ensures { λ r. ⌜ r ≡ inLine (entry (now (prefix .entry))) (standsOf (now (values .entry)) (now (map .entry))) (listAt (now (proof .entry)) l) y ⌝ }
+    requires { ⌜ Marked (now images) (imagesOf (standsIn values map) (listIn proof l)) ⌝ }
+    ensures { λ r. ⌜ r ≡ inLine (words (prefix .entry)) (standsIn (values .entry) (map .entry)) (listIn (proof .entry) l) y ⌝ }
 {
     if prefix::existential(prefix, y / 2) {
         return copies::stood_for(images, values, map, proof, l, y);
@@ -107,7 +99,7 @@ fn in_line(
 }
 
 fn each_in_line(
-    images: &[u8; 8194],
+    images: &Seen,
     prefix: &[i32],
     values: &[i32],
     map: &[i32],
@@ -116,8 +108,9 @@ fn each_in_line(
     matrix: &[i32],
     c: usize,
 ) -> bool
-    requires { ⌜ Marked (now images) (imagesOf (standsOf (now values) (now map)) (listAt (now proof) l)) ⌝ }
-    ensures { λ r. ⌜ r ≡ all (inLine (entry (now (prefix .entry))) (standsOf (now (values .entry)) (now (map .entry))) (listAt (now (proof .entry)) l)) (listAt (now (matrix .entry)) c) ⌝ }
+    requires { ⌜ Marked (now images) (imagesOf (standsIn values map) (listIn proof l)) ⌝ }
+    ensures { λ r. ⌜ r ≡ all (inLine (words (prefix .entry)) (standsIn (values .entry) (map .entry))
+        (listIn (proof .entry) l)) (listIn (matrix .entry) c) ⌝ }
 {
     let mut i = c;
     loop {
@@ -142,43 +135,15 @@ fn clause_in_line(
     matrix: &[i32],
     c: usize,
 ) -> bool
-    ensures { λ r. ⌜ r ≡ all (inLine (entry (now (prefix .entry))) (standsOf (now (values .entry)) (now (map .entry))) (listAt (now (proof .entry)) l)) (listAt (now (matrix .entry)) c) ⌝ }
+    ensures { λ r. ⌜ r ≡ all (inLine (words (prefix .entry)) (standsIn (values .entry) (map .entry))
+        (listIn (proof .entry) l)) (listIn (matrix .entry) c) ⌝ }
 {
-    let mut images = [0u8; 8194];
+    let mut images = [0u8; CODES];
     copies::mark_images(&mut images, values, map, proof, l);
     each_in_line(&images, prefix, values, map, proof, l, matrix, c)
 }
 
-// If literal y is universal, its negation is not in the clause.
-fn one_signed(seen: &[u8; 8194], prefix: &[i32], matrix: &[i32], c: usize, y: usize) -> bool
-    requires { ⌜ Marked (now seen) (listAt (now matrix) c) × (y < 65536) ⌝ }
-    ensures { λ r. ⌜ r ≡ oneSigned (entry (now (prefix .entry))) (listAt (now (matrix .entry)) c) y ⌝ }
-{
-    if prefix::universal(prefix, y / 2) {
-        return !marks::marked(seen, matrix, c, negated(y));
-    }
-    true
-}
-
-fn clause_one_signed(seen: &[u8; 8194], prefix: &[i32], matrix: &[i32], c: usize) -> bool
-    requires { ⌜ Marked (now seen) (listAt (now matrix) c) ⌝ }
-    ensures { λ r. ⌜ r ≡ all (oneSigned (entry (now (prefix .entry))) (listAt (now (matrix .entry)) c)) (listAt (now (matrix .entry)) c) ⌝ }
-{
-    let mut i = c;
-    loop {
-        let y = read::code(matrix, i);
-        if y == 0 {
-            return true;
-        }
-        if one_signed(seen, prefix, matrix, c, y) {
-            i += 1;
-        } else {
-            return false;
-        }
-    }
-}
-
-// The line's literals stand for the clause's existential ones, and no universal of the clause has both signs.
+// The line's literals stand for the clause's existential ones.
 pub fn literals_fit(
     prefix: &[i32],
     values: &[i32],
@@ -188,14 +153,13 @@ pub fn literals_fit(
     matrix: &[i32],
     c: usize,
 ) -> bool
-    ensures { λ r. ⌜ r ≡ literalsFit (entry (now (prefix .entry))) (standsOf (now (values .entry)) (now (map .entry))) (listAt (now (proof .entry)) l) (listAt (now (matrix .entry)) c) ⌝ }
+    ensures { λ r. ⌜ r ≡ literalsFit (words (prefix .entry)) (standsIn (values .entry) (map .entry))
+        (listIn (proof .entry) l) (listIn (matrix .entry) c) ⌝ }
 {
-    let mut seen = [0u8; 8194];
+    let mut seen = [0u8; CODES];
     marks::mark(&mut seen, matrix, c);
     if line_in_clause(&seen, prefix, values, map, proof, l, matrix, c) {
-        if clause_in_line(prefix, values, map, proof, l, matrix, c) {
-            return clause_one_signed(&seen, prefix, matrix, c);
-        }
+        return clause_in_line(prefix, values, map, proof, l, matrix, c);
     }
     false
 }

@@ -1,22 +1,27 @@
 // Membership in a table's list of codes, through marks in a local array.
 use crate::read;
 ghost use mathlib.Core.Path.{_≡_};
-ghost use Rattle.cells.specs.Cells.{listAt};
 ghost use Rattle.rules.specs.Basics.{isIn};
 ghost use Rattle.expansion.specs.Marks.{stamp, marks, Marked};
+ghost use Rattle.expansion.specs.Codes.{listIn};
+
+// A formula's literals have codes below this.
+pub const CODES: usize = 8194;
+
+pub type Seen = [u8; CODES];
 
 // Marks a code; one above every code of a formula's literal is passed over.
-pub fn mark_one(seen: &mut [u8; 8194], y: usize)
+pub fn mark_one(seen: &mut Seen, y: usize)
     ensures { λ _. ⌜ now (seen .exit) ≡ stamp (now (seen .entry)) y ⌝ }
 {
-    if y < 8194 {
+    if y < CODES {
         seen[y] = 1;
     }
 }
 
 // Marks the codes from place a on.
-pub fn mark(seen: &mut [u8; 8194], t: &[i32], a: usize)
-    ensures { λ _. ⌜ now (seen .exit) ≡ marks (listAt (now (t .entry)) a) (now (seen .entry)) ⌝ }
+pub fn mark(seen: &mut Seen, t: &[i32], a: usize)
+    ensures { λ _. ⌜ now (seen .exit) ≡ marks (listIn (t .entry) a) (now (seen .entry)) ⌝ }
 {
     let mut i = a;
     loop {
@@ -31,7 +36,7 @@ pub fn mark(seen: &mut [u8; 8194], t: &[i32], a: usize)
 
 // Whether y is among the codes from place a on, without marks.
 pub fn has(t: &[i32], a: usize, y: usize) -> bool
-    ensures { λ r. ⌜ r ≡ isIn (listAt (now (t .entry)) a) y ⌝ }
+    ensures { λ r. ⌜ r ≡ isIn (listIn (t .entry) a) y ⌝ }
 {
     let mut i = a;
     loop {
@@ -47,11 +52,11 @@ pub fn has(t: &[i32], a: usize, y: usize) -> bool
 }
 
 // The same where those codes are marked.
-pub fn marked(seen: &[u8; 8194], t: &[i32], a: usize, y: usize) -> bool
-    requires { ⌜ Marked (now seen) (listAt (now t) a) ⌝ }
-    ensures { λ r. ⌜ r ≡ isIn (listAt (now (t .entry)) a) y ⌝ }
+pub fn marked(seen: &Seen, t: &[i32], a: usize, y: usize) -> bool
+    requires { ⌜ Marked (now seen) (listIn t a) ⌝ }
+    ensures { λ r. ⌜ r ≡ isIn (listIn (t .entry) a) y ⌝ }
 {
-    if y < 8194 {
+    if y < CODES {
         return seen[y] == 1;
     }
     has(t, a, y)

@@ -4,29 +4,23 @@ ghost use Prim.Native.Nat.{_<_};
 ghost use Rattle.cells.specs.Cells.{cellAt, codeAt};
 ghost use Rattle.prefix.specs.Prefix.{entry};
 
-fn wide(x: u32) -> usize
-    ensures { λ r. ⌜ (r ≡ x) × (r < 4294967296) ⌝ }
-{
-    x as usize
-}
-
 // The code at a place.
 pub fn code(t: &[i32], i: usize) -> usize
     ensures { λ r. ⌜ (r ≡ codeAt (now (t .entry)) i) × (r < 65536) ⌝ }
 {
-    wide(cells::code(t, i))
+    cells::wide(cells::code(t, i))
 }
 
 // The number at a place.
 pub fn cell(t: &[i32], i: usize) -> usize
     ensures { λ r. ⌜ (r ≡ cellAt (now (t .entry)) i) × (r < 4294967296) ⌝ }
 {
-    wide(cells::cell(t, i))
+    cells::wide(cells::cell(t, i))
 }
 
 // The word of a copy.
 pub fn word(t: &[i32], p: usize) -> usize
     ensures { λ r. ⌜ (r ≡ entry (now (t .entry)) p) × (r < 4294967296) ⌝ }
 {
-    wide(prefix::word(t, p))
+    cells::wide(prefix::word(t, p))
 }

@@ -1,12 +1,13 @@
 -- Laws of the certificate's lines one after the other. Assumes nothing.
 use mathlib.Core.Path.{_≡_, refl, ap, sym, _∙_, subst}
-use mathlib.Core.Logic.{_⊎_, inl, inr}
 use mathlib.Core.List.{List, [], _∷_}
 use mathlib.Core.Option.{Option, none, some}
-use mathlib.Core.Bool.{Bool, true, false}
-use Prim.Native.Nat.{ℕ, _+_, _-_, _*_, _<_, _≤_, max}
+use mathlib.Core.Bool.{Bool, true, false, cond}
+use Prim.Native.Nat.{ℕ, _+_, _-_, _<_, _≤_}
 use native.Mathlib.Omega.{arith}
+use lib.Dec.{eqb}
 use lib.ListN.{length, take, drop}
+use borrow.Author.Tests.{eq-eqb, ne-eqb}
 use Rattle.lines.specs.Lines.{Token, linesOf, readLine}
 use Rattle.lines.specs.Scan.{passes, run}
 use Rattle.lines.specs.declared.Run.the-variants.{Line}
@@ -14,25 +15,23 @@ use Rattle.lines.proofs.Runs.{after, line-first, line-next, line-last}
 use Rattle.rules.specs.Basics.{maybe}
 use Rattle.rules.specs.Formula.{Formula}
 use Rattle.rules.specs.Forms.{CertificateLine, mapping, hints, expansion, addition, deletion, certificateLine}
-use Rattle.rules.specs.Needs.{Places, places, together, lineNeeds}
+use Rattle.rules.specs.Needs.{Places, together, lineNeeds}
 use Rattle.rules.specs.Limits.{Limits, limits, hasRoom}
 use Rattle.rules.specs.Step as rules
 use Rattle.rules.specs.Step.{_unless_, _then_, refuseIn, goOn, judgeLines, judgeFile, judgeBytes}
 use Rattle.rules.specs.CertificateLines.{State, start, needing, inSequence, inRange, kindRules, accept, judge, certificateEnd, readCertificate}
-use Rattle.ferat.specs.declared.progress.Progress.{Progress}
-use Rattle.ferat.specs.declared.progress.Step.{Step}
-use Rattle.ferat.specs.declared.progress.Step.the-variants.{Next, Refuse}
-use Rattle.ferat.specs.declared.progress.Ended.{Ended}
-use Rattle.ferat.specs.declared.progress.Ended.the-variants.{Closed, Refused}
-use Rattle.ferat.specs.Tables.{Tables, lengthsOf, KeptAll}
-use Rattle.ferat.specs.Shown.{Shown, Stepped, weight}
-use Rattle.ferat.specs.Certificate.{Counted, judgeLine, EndedAs, atEnd, Going, CertificateRead}
-use Rattle.ferat.proofs.Frames.{same-lengths, all-self, Below, all-then}
+use Rattle.tables.specs.Tables.{Tables, lengthsOf, KeptAll}
+use Rattle.tables.proofs.Frames.{same-lengths, all-self, Below, below-self, all-then}
+use Rattle.steps.specs.declared.Counts.{Counts}
+use Rattle.steps.specs.declared.Progress.{Progress}
+use Rattle.steps.specs.declared.Step.the-variants.{Next, Refuse}
+use Rattle.steps.specs.Shown.{Work, Shown, Stepped, weight}
+use Rattle.steps.specs.Judges.{endBroken}
+use Rattle.steps.proofs.EndLaws.{numbered, end-is}
+use Rattle.ferat.specs.declared.certificate.Ended.the-variants.{Closed, Refused}
+use Rattle.ferat.specs.Certificate.{Counted, judgeLine, EndedAs, endedBy, Going}
 
 -- NEEDS ONLY GROW
-pub below-self : (n : Places) → Below n n
-below-self n = record { prefix = omega arith; matrix = omega arith; map = omega arith; proof = omega arith; marks = omega arith; values = omega arith }
-
 below-together : (m n : Places) → Below m (together m n)
 unfolding together
 below-together m n = record { prefix = omega arith; matrix = omega arith; map = omega arith; proof = omega arith; marks = omega arith; values = omega arith }
@@ -122,8 +121,8 @@ module _ (l : Limits) (f : Formula) (s : State) where
       read none = tt
       read (some ts) = formed (certificateLine ts)
 
-counted : (p : Progress) (u : Tables) (f : Formula) (s s′ : State) → Shown p u f s → SameCounts s s′ → Counted p s′
-counted p u f s s′ h c = record {
+counted : (p : Progress) (u : Tables) (w : Work) (f : Formula) (s s′ : State) → Shown p u w f s → SameCounts s s′ → Counted (p .counts) s′
+counted p u w f s s′ h c = record {
   expansions = h .expansions ∙ c .expansions;
   additions = h .additions ∙ c .additions;
   deletions = h .deletions ∙ c .deletions;
@@ -134,11 +133,11 @@ module _ (bs : List ℕ) (f : Formula) (t : Tables) where
   abbrev L : Limits
   L = limits (lengthsOf t)
 
-  pub going-start : (p : Progress) → Shown p t f (start f) → Going bs f t 0 1 p t
+  pub going-start : (p : Progress) (w : Work) → Shown p t w f (start f) → weight p ≡ 0 → Going bs f t 0 1 p t w
   unfolding readCertificate judgeFile
-  going-start p h = record { state = start f; shown = h; rest = refl; kept = all-self _ t }
+  going-start p w h e = record { state = start f; shown = h; rest = refl; kept = all-self _ t; light = omega (arith, e) }
 
-  module _ {at n : ℕ} {p : Progress} {u : Tables} (g : Going bs f t at n p u) {e : ℕ} (h : e ≡ at + run (passes Line) (drop at bs)) where
+  module _ {at n : ℕ} {p : Progress} {u : Tables} {w : Work} (g : Going bs f t at n p u w) {e : ℕ} (h : e ≡ at + run (passes Line) (drop at bs)) where
     abbrev s : State
     s = g .state
 
@@ -152,16 +151,12 @@ module _ (bs : List ℕ) (f : Formula) (t : Tables) where
     same-step : step ≡ judgeLine L f s line
     same-step = ap (λ m. judgeLine (limits m) f s line) (same-lengths (g .kept))
 
-    -- what comes after the line
-    first : judgeLines (judgeLine L f) (certificateEnd L f) n (linesOf (drop at bs)) s ≡ readCertificate L f bs
-    first = g .rest
-
-    module _ (w : Tables) where
-      pub going-next : {q : Progress} → e < length bs → Stepped f p (e - at) u step (Next q) w → Going bs f t (e + 1) (n + 1) q w
+    module _ (v : Tables) (x : Work) where
+      pub going-next : {q : Progress} → e < length bs → Stepped f p (e - at) u step (Next q) v x → Going bs f t (e + 1) (n + 1) q v x
       unfolding judgeLines
       going-next {q} l d = go step refl d
         where
-          go : (r : rules.Step State) → step ≡ r → Stepped f p (e - at) u r (Next q) w → Going bs f t (e + 1) (n + 1) q w
+          go : (r : rules.Step State) → step ≡ r → Stepped f p (e - at) u r (Next q) v x → Going bs f t (e + 1) (n + 1) q v x
           go (rules.next s′) k d = record {
             state = s′;
             shown = d .0;
@@ -170,13 +165,14 @@ module _ (bs : List ℕ) (f : Formula) (t : Tables) where
                 ∙ ap (λ x. goOn x (judgeLines (judgeLine L f) (certificateEnd L f) (n + 1) (linesOf (drop (e + 1) bs))) n) (sym same-step ∙ k))
                 ∙ g .rest;
             kept = all-then (subst (λ x. Below (s .needs) (stateOf x .needs)) k (line-below (limits (lengthsOf u)) f s line)) (g .kept) (d .1);
+            light = omega (arith, d .2, g .light, h);
           }
           go (rules.refuse m s′) k d = absurd d
 
       -- the line is refused
-      pub going-refused : (k m : ℕ) → m ≡ n → Stepped f p (e - at) u step (Refuse k) w → EndedAs t (readCertificate L f bs) (Refused k m p) w
+      pub going-refused : (k : ℕ) → Stepped f p (e - at) u step (Refuse k) v x → EndedAs t (readCertificate L f bs) (Refused k n (p .counts)) v
       unfolding judgeLines
-      going-refused k m q d = go step refl d
+      going-refused k d = go step refl d
         where
           more : (r : rules.Step State) → step ≡ r → (ls : List (List ℕ)) → linesOf (drop at bs) ≡ line ∷ ls
               → goOn r (judgeLines (judgeLine L f) (certificateEnd L f) (n + 1) ls) n ≡ readCertificate L f bs
@@ -185,35 +181,40 @@ module _ (bs : List ℕ) (f : Formula) (t : Tables) where
               ∙ ap (λ x. goOn x (judgeLines (judgeLine L f) (certificateEnd L f) (n + 1) ls) n) (sym same-step ∙ j))
               ∙ g .rest
 
-          go : (r : rules.Step State) → step ≡ r → Stepped f p (e - at) u r (Refuse k) w → EndedAs t (readCertificate L f bs) (Refused k m p) w
+          go : (r : rules.Step State) → step ≡ r → Stepped f p (e - at) u r (Refuse k) v x → EndedAs t (readCertificate L f bs) (Refused k n (p .counts)) v
           go (rules.next s′) j d = absurd d
           go (rules.refuse m′ s′) j d =
-              subst (λ x. EndedAs t x (Refused k m p) w) (more (rules.refuse m′ s′) j (after (drop e bs)) (line-first bs at h)) (
+              subst (λ x. EndedAs t x (Refused k n (p .counts)) v) (more (rules.refuse m′ s′) j (after (drop e bs)) (line-first bs at h)) (
                 d .0,
-                q,
-                counted p u f s s′ (g .shown) (subst (RefusedIn s) j (line-counts (limits (lengthsOf u)) f s line)),
+                refl,
+                counted p u w f s s′ (g .shown) (subst (RefusedIn s) j (line-counts (limits (lengthsOf u)) f s line)),
                 all-then (subst (λ x. Below (s .needs) (stateOf x .needs)) j (line-below (limits (lengthsOf u)) f s line)) (g .kept) (d .1),
               )
 
       -- the last line is accepted: what the rules at the end of the file say
-      pub record Last (q : Progress) : Type 0 where
-        pub state : State
-        pub shown : Shown q w f state
-        pub kept : KeptAll (state .needs) t w
-        pub rest : atEnd L f state ≡ readCertificate L f bs
-
-      pub going-last : {q : Progress} → length bs ≤ e → Stepped f p (e - at) u step (Next q) w → Last q
+      pub going-last : (q : Progress) → length bs ≤ e → Stepped f p (e - at) u step (Next q) v x → {k : ℕ} → k ≡ endBroken q (v .proof) (v .marks)
+          → EndedAs t (readCertificate L f bs) (endedBy k (q .counts)) v
       unfolding judgeLines
-      going-last {q} l d = go step refl d
+      going-last q l d {k} i = go step refl d
         where
-          go : (r : rules.Step State) → step ≡ r → Stepped f p (e - at) u r (Next q) w → Last q
-          go (rules.next s′) k d = record {
-            state = s′;
-            shown = d .0;
-            kept = all-then (subst (λ x. Below (s .needs) (stateOf x .needs)) k (line-below (limits (lengthsOf u)) f s line)) (g .kept) (d .1);
-            rest =
-                sym (ap (λ ls. judgeLines (judgeLine L f) (certificateEnd L f) n ls s) (line-last bs at h l)
-                ∙ ap (λ x. goOn x (judgeLines (judgeLine L f) (certificateEnd L f) (n + 1) []) n) (sym same-step ∙ k))
-                ∙ g .rest;
-          }
-          go (rules.refuse m s′) k d = absurd d
+          by : (s′ : State) → Shown q v x f s′ → KeptAll (s′ .needs) t v → (b : Bool) → eqb k 0 ≡ b
+              → EndedAs t (goOn (refuseIn s′ (cond b none (some k)) (rules.next s′)) rules.ended 0) (cond b (Closed (q .counts)) (Refused k 0 (q .counts))) v
+          by s′ y z true e = (counted q v x f s′ s′ y (same-counts s′), z)
+          by s′ y z false e = (refl, refl, counted q v x f s′ s′ y (same-counts s′), z)
+
+          go : (r : rules.Step State) → step ≡ r → Stepped f p (e - at) u r (Next q) v x → EndedAs t (readCertificate L f bs) (endedBy k (q .counts)) v
+          go (rules.next s′) j d =
+              subst (λ y. EndedAs t y (endedBy k (q .counts)) v)
+              (ap (λ o. goOn (refuseIn s′ o (rules.next s′)) rules.ended 0) (ap numbered i ∙ sym (end-is (d .0) L))
+              ∙ sym (ap (λ ls. judgeLines (judgeLine L f) (certificateEnd L f) n ls s) (line-last bs at h l)
+              ∙ ap (λ x. goOn x (judgeLines (judgeLine L f) (certificateEnd L f) (n + 1) []) n) (sym same-step ∙ j))
+              ∙ g .rest)
+              (by s′ (d .0) (all-then (subst (λ x. Below (s .needs) (stateOf x .needs)) j (line-below (limits (lengthsOf u)) f s line)) (g .kept) (d .1)) (eqb k 0) refl)
+          go (rules.refuse m s′) j d = absurd d
+
+-- the end of the file, by the code's test
+pub ended-closed : {k : ℕ} → k ≡ 0 → {c : Counts} → Closed c ≡ endedBy k c
+ended-closed {k} e {c} = sym (ap (λ b. cond b (Closed c) (Refused k 0 c)) (eq-eqb k 0 e))
+
+pub ended-refused : {k : ℕ} → (k ≡ 0 → ⊥) → {c : Counts} → Refused k 0 c ≡ endedBy k c
+ended-refused {k} e {c} = sym (ap (λ b. cond b (Closed c) (Refused k 0 c)) (ne-eqb k 0 e))

@@ -8,7 +8,7 @@ use native.Mathlib.Omega.{arith}
 use lib.Dec.{leb}
 use borrow.Author.Tests.{le-leb, lt-leb}
 use lib.IntN.{ℤ}
-use lib.ListN.{length, replicate, length-replicate}
+use lib.ListN.{length, replicate}
 use Rattle.cells.specs.Cells.{Kept}
 use Rattle.rules.specs.Formula.{Formula}
 use Rattle.rules.specs.Needs.{Places, places, formulaNeeds, formulaNeedsSoFar}
@@ -17,41 +17,30 @@ use Rattle.rules.specs.Step as rules
 use Rattle.rules.specs.Step.{refuseIn, goOn, judgeLines, judgeFile}
 use Rattle.rules.specs.FormulaLines.{readFormula}
 use Rattle.rules.specs.CertificateLines.{State, start, certificateEnd, readCertificate}
-use Rattle.rules.specs.Verdict.{Checked, early, ofCertificate, ofFormula, check, verdict}
+use Rattle.rules.specs.Verdict.{Checked, early, ofCertificate, ofFormula, check}
 use Rattle.rules.specs.declared.Verdict.the-variants.{Accepted, Refused}
 use Rattle.rules.specs.declared.Report.{Report}
 use Rattle.formula.specs.declared.Reading.{Reading}
 use Rattle.formula.specs.declared.Answer.{Answer}
 use Rattle.formula.specs.declared.Answer.the-variants as answer
-use Rattle.formula.specs.Holds.{Holds, Sized}
-use Rattle.formula.specs.Answers.{AnswerIs, Answers, Answered, reading, readState}
-use Rattle.ferat.specs.declared.progress.Progress.{Progress}
-use Rattle.ferat.specs.declared.progress.Ended.{Ended}
-use Rattle.ferat.specs.declared.progress.Ended.the-variants as end-of
-use Rattle.ferat.specs.Tables.{Tables, tables, lengthsOf, KeptAll}
-use Rattle.ferat.specs.Standing.{standing}
-use Rattle.ferat.specs.Trail.{Held}
-use Rattle.ferat.specs.Index.{Indexing}
-use Rattle.ferat.specs.Certificate.{begun, Counted, judgeLine, EndedAs, CertificateRead, Beginning}
-use Rattle.ferat.specs.Check.{Ready, reportOf, refusedEarly, CheckedIn}
-use Rattle.ferat.proofs.Frames.{same-lengths, all-self, Below, all-then}
-use Rattle.ferat.proofs.CertificateLaws.{below-self, stateOf, line-below}
-use Rattle.ferat.proofs.StartLaws.{shown-start}
-use Rattle.ferat.proofs.TrailLaws.{ready-start, held-empty}
+use Rattle.formula.specs.Answers.{Answers, Answered, reading, readState}
+use Rattle.tables.specs.Tables.{Tables, tables, lengthsOf, KeptAll}
+use Rattle.tables.proofs.Frames.{same-lengths, all-self, Below, below-self, all-then}
+use Rattle.expansion.specs.Index.{indexOf}
+use Rattle.steps.specs.declared.Progress.{Progress}
+use Rattle.steps.specs.Shown.{work}
+use Rattle.ferat.specs.declared.certificate.Ended.{Ended}
+use Rattle.ferat.specs.declared.certificate.Ended.the-variants as end-of
+use Rattle.ferat.specs.Certificate.{judgeLine, EndedAs, CertificateRead}
+use Rattle.ferat.specs.Check.{begun, FormulaChecked, reportOf, refusedEarly, CheckedIn}
+use Rattle.ferat.proofs.CertificateLaws.{stateOf, line-below}
+use Rattle.ferat.proofs.StartLaws.{shown-start, light-start}
 
--- BEFORE THE FIRST LINE of the certificate, with working memory of zeros
-pub beginning : (r : Reading) (p : Progress) → p ≡ begun r → (t : Tables) (starts : List ℕ) → Ready r (t .prefix) (t .matrix) → Indexing (t .matrix) (r .used) starts
-    → Beginning p starts t (replicate 65536 0) (replicate 65536 0) 0
-beginning r p e t starts h i = subst (λ q. Beginning q starts t (replicate 65536 0) (replicate 65536 0) 0) (sym e) record {
-  formula = h .0;
-  shown = shown-start r (t .prefix) (t .matrix) (t .map) (t .proof) (t .marks) (t .values) (h .0) (h .1) (h .2);
-  indexing = i;
-  light = refl;
-  held = held-empty (standing (t .proof) (t .marks) 0) (replicate 65536 0) (replicate 65536 0) (ready-start (replicate 65536 0) (length-replicate {A = ℕ} 65536 0));
-}
-
-pub begun-read : (r : Reading) (p : Progress) → p ≡ begun r → (cs : List ℕ) (t : Tables) (x : Ended) (u : Tables) → CertificateRead cs p t x u → CertificateRead cs (begun r) t x u
-begun-read r p e cs t x u h = subst (λ q. CertificateRead cs q t x u) e h
+-- THE CERTIFICATE of a formula that was read, with working memory of zeros
+pub formula-checked : (r : Reading) (p : Progress) → p ≡ begun r → (cs : List ℕ) (t : Tables) {starts : List ℕ} → starts ≡ indexOf (t .matrix) (r .used) (replicate 8193 0)
+    → (x : Ended) (u : Tables) → CertificateRead cs p t (work starts (replicate 16385 0) (replicate 65536 0) (replicate 65536 0)) x u → FormulaChecked cs r t x u
+formula-checked r p e cs t {starts} i x u h f a b =
+    subst (λ q. CertificateRead cs q t (work starts (replicate 16385 0) (replicate 65536 0) (replicate 65536 0)) x u) e h f (shown-start r t f a b i) (light-start r)
 
 -- WHAT THE CERTIFICATE NEEDS is at least what the formula needs
 below-then : {a b c : Places} → Below a b → Below b c → Below a c
@@ -90,11 +79,11 @@ module _ (t u w : Tables) (f : Formula) (k : KeptAll (formulaNeeds f) t u) where
   Reported c r = (r ≡ c .report) × KeptAll (c .needs) t w
 
   pub reported : (x : rules.Read State) (e : Ended) → EndedAs u x e w → Below (formulaNeeds f) (readState x .needs) → Reported (ofCertificate x) (reportOf e)
-  reported (rules.ended s) (end-of.Closed p) h b =
+  reported (rules.ended s) (end-of.Closed c) h b =
       ((λ i. record { verdict = Accepted; expansions = h .0 .expansions i; additions = h .0 .additions i; deletions = h .0 .deletions i }), all-then b k (h .1))
-  reported (rules.ended s) (end-of.Refused n line p) h b = absurd h
-  reported (rules.refusedAt n m s) (end-of.Closed p) h b = absurd h
-  reported (rules.refusedAt n m s) (end-of.Refused j line p) h b =
+  reported (rules.ended s) (end-of.Refused n line c) h b = absurd h
+  reported (rules.refusedAt n m s) (end-of.Closed c) h b = absurd h
+  reported (rules.refusedAt n m s) (end-of.Refused j line c) h b =
       ((λ i. record { verdict = Refused (h .0 i) 2 (h .1 i); expansions = h .2 .expansions i; additions = h .2 .additions i; deletions = h .2 .deletions i }), all-then b k (h .3))
 
 module _ (bs cs : List ℕ) (t : Tables) where
@@ -110,7 +99,7 @@ module _ (bs cs : List ℕ) (t : Tables) where
 
   told : (r : Report) (u : Tables) (a b : Bool) → leb (length bs) 1048576 ≡ a → leb (length cs) 1048576 ≡ b
       → r ≡ outer a b .report → KeptAll (outer a b .needs) t u → CheckedIn bs cs t r u
-  unfolding check verdict
+  unfolding check
   told r u a b p q h k = record {
     report = h ∙ sym (ap (λ z. outer z b .report) p) ∙ sym (ap (λ z. outer (leb (length bs) 1048576) z .report) q);
     kept = subst (λ z. KeptAll (outer (leb (length bs) 1048576) z .needs) t u) (sym q) (subst (λ z. KeptAll (outer z b .needs) t u) (sym p) k);
@@ -157,15 +146,7 @@ module _ (bs cs : List ℕ) (t : Tables) where
         done : Answers (readFormula L bs) (t .prefix) (t .matrix) (answer.Done r) p m
         done = subst (λ z. Answers (readFormula L bs) (t .prefix) (t .matrix) z p m) e answers
 
-        pub formula-ready : Ready r p m
-        formula-ready = go (readFormula L bs) done
-          where
-            go : (x : rules.Read (Option Formula)) → Answers x (t .prefix) (t .matrix) (answer.Done r) p m → Ready r p m
-            go (rules.ended none) o = absurd (o .answer)
-            go (rules.ended (some f)) o = (f, o .answer .0, o .answer .1)
-            go (rules.refusedAt n i s) o = absurd (o .answer)
-
-        pub certificate-checked : (x : Ended) (w : Tables) → CertificateRead cs (begun r) read x w → (y : Report) → y ≡ reportOf x → CheckedIn bs cs t y w
+        pub certificate-checked : (x : Ended) (w : Tables) → FormulaChecked cs r read x w → (y : Report) → y ≡ reportOf x → CheckedIn bs cs t y w
         certificate-checked x w d y i =
             let o = go (readFormula L bs) done in
             checked y w (i ∙ o .0) (o .1)
@@ -178,6 +159,6 @@ module _ (bs cs : List ℕ) (t : Tables) where
                 let k = kept (formulaNeeds f) (o .prefix) (o .matrix) in
                 reported t read w f k (readCertificate L f cs) x
                 (subst (λ z. EndedAs read (readCertificate (limits z) f cs) x w) (same-lengths k)
-                (d f (shown-start r p m (t .map) (t .proof) (t .marks) (t .values) f (o .answer .0) (o .answer .1))))
+                (d f (o .answer .0) (o .answer .1)))
                 (read-below L f cs)
             go (rules.refusedAt n i s) o = absurd (o .answer)

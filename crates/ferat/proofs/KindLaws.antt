@@ -1,12 +1,10 @@
 -- Laws of the kinds of lines. Assumes nothing.
 use mathlib.Core.Path.{_≡_, refl, ap, sym, _∙_}
-use mathlib.Core.Bool.{Bool, true, false, cond}
+use mathlib.Core.Bool.{Bool, true, false}
 use mathlib.Core.List.{List, [], _∷_}
 use mathlib.Core.Option.{Option, none, some}
 use Prim.Native.Nat.{ℕ}
 use Prim.Native.String.{String}
-use native.Mathlib.Omega.{arith}
-use lib.ListN.{length}
 use lib.Dec.{eqb}
 use borrow.Author.Tests.{eq-eqb, ne-eqb, eqb-true}
 use Rattle.lines.specs.Bytes.{classOf, bytes, sameBytes}
@@ -23,9 +21,9 @@ use Rattle.rules.specs.Step.{judgeBytes}
 use Rattle.rules.specs.CertificateLines.{State, judge}
 use Rattle.formula.proofs.LineKinds.{word-is, one-byte, other-byte}
 use Rattle.ferat.specs.declared.kinds.Kind.{Kind}
-use Rattle.ferat.specs.Tables.{Tables, lengthsOf}
+use Rattle.tables.specs.Tables.{Tables, lengthsOf}
 use Rattle.ferat.specs.Kinds.{picked, letterKind, kindOf}
-use Rattle.ferat.specs.Judged.{judged}
+use Rattle.ferat.specs.Lines.{judged}
 use Rattle.ferat.specs.Certificate.{judgeLine}
 
 -- the code's tests on the letter

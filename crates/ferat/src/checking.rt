@@ -1,38 +1,43 @@
 // A check: two files, the six tables, a report.
 ghost use mathlib.Core.Path.{_≡_};
-ghost use Prim.Native.Nat.{ℕ, _≤_};
+ghost use Prim.Native.Nat.{_≤_};
 ghost use lib.ListN.{length};
-ghost use Rattle.ferat.specs.Tables.{tables};
-ghost use Rattle.ferat.specs.Certificate.{begun, CertificateRead};
-ghost use Rattle.ferat.specs.Check.{Ready, reportOf, refusedEarly, CheckedIn};
-use crate::addition::Units;
+ghost use Rattle.tables.specs.Tables.{six};
+ghost use Rattle.ferat.specs.Check.{begun, FormulaChecked, reportOf, refusedEarly, CheckedIn};
+use crate::certificate::Ended;
 use crate::certificate::read_certificate;
-use crate::index::index_clauses;
-use crate::progress::Ended;
-use crate::progress::Progress;
 use formula::Answer;
 use formula::Reading;
+use mapping::Mapped;
+use propagation::Units;
 use rules::Report;
 use rules::Verdict;
+use steps::Counts;
+use steps::Hinted;
+use steps::Progress;
+use tables::BYTES;
 
 // Nothing of the certificate is read yet.
 fn begin(r: Reading) -> Progress
     ensures { λ p. ⌜ p ≡ begun r ⌝ }
 {
     Progress {
-        v: r.v,
-        c: r.c,
-        matrix: r.used,
-        map: 0,
-        proof: 0,
-        clauses: 0,
-        values: 0,
-        mapped: 0,
-        hinted: false,
-        hints: 0,
-        expansions: 0,
-        additions: 0,
-        deletions: 0,
+        formula: r,
+        mapped: Mapped {
+            used: 0,
+            largest: 0,
+        },
+        hinted: Hinted {
+            given: false,
+            count: 0,
+        },
+        store: clauses::above(0),
+        units: Units { n: 0, q: 0 },
+        counts: Counts {
+            expansions: 0,
+            additions: 0,
+            deletions: 0,
+        },
     }
 }
 
@@ -47,20 +52,20 @@ fn check_certificate(
     marks: &mut [i32],
     values: &mut [i32],
 ) -> Ended
-    requires { ⌜ (length (now certificate) ≤ 1048576) × Ready r (now prefix) (now matrix) ⌝ }
-    ensures { λ e. ⌜ CertificateRead (now (certificate .entry)) (begun r) (tables (now (prefix .entry)) (now (matrix .entry)) (now (map .entry)) (now (proof .entry)) (now (marks .entry)) (now (values .entry))) e (tables (now (prefix .entry)) (now (matrix .entry)) (now (map .exit)) (now (proof .exit)) (now (marks .exit)) (now (values .exit))) ⌝ }
+    requires { ⌜ length (now certificate) ≤ 1048576 ⌝ }
+    ensures { λ e. ⌜ FormulaChecked (now (certificate .entry)) r
+        (six (prefix .entry) (matrix .entry) (map .entry) (proof .entry) (marks .entry) (values .entry)) e
+        (six (prefix .entry) (matrix .entry) (map .exit) (proof .exit) (marks .exit) (values .exit)) ⌝ }
 {
     let mut starts = [0; 8193];
-    let mut off = [0; 65536];
+    let mut noted = [0; 16385];
+    let mut falses = [0; 65536];
     let mut trail = [0; 65536];
-    let mut head = [0; 65536];
-    let mut next = [0; 262144];
-    let mut watched = [0; 262144];
-    index_clauses(matrix, r.used, &mut starts);
+    let mut watches = [0; 327680];
+    expansion::index_clauses(matrix, r.used, &mut starts);
     read_certificate(
         certificate,
         begin(r),
-        Units { n: 0, q: 0 },
         prefix,
         matrix,
         map,
@@ -68,11 +73,10 @@ fn check_certificate(
         marks,
         values,
         &starts,
-        &mut off,
+        &mut noted,
+        &mut falses,
         &mut trail,
-        &mut head,
-        &mut next,
-        &mut watched,
+        &mut watches,
     )
 }
 
@@ -81,21 +85,21 @@ fn report_of(e: Ended) -> Report
     ensures { λ r. ⌜ r ≡ reportOf e ⌝ }
 {
     match e {
-        Ended::Closed(p) => Report {
+        Ended::Closed(c) => Report {
             verdict: Verdict::Accepted,
-            expansions: p.expansions,
-            additions: p.additions,
-            deletions: p.deletions,
+            expansions: c.expansions,
+            additions: c.additions,
+            deletions: c.deletions,
         },
-        Ended::Refused(number, line, p) => Report {
+        Ended::Refused(number, line, c) => Report {
             verdict: Verdict::Refused {
                 number,
                 file: 2,
                 line,
             },
-            expansions: p.expansions,
-            additions: p.additions,
-            deletions: p.deletions,
+            expansions: c.expansions,
+            additions: c.additions,
+            deletions: c.deletions,
         },
     }
 }
@@ -123,12 +127,14 @@ pub fn check(
     marks: &mut [i32],
     values: &mut [i32],
 ) -> Report
-    ensures { λ r. ⌜ CheckedIn (now (formula .entry)) (now (certificate .entry)) (tables (now (prefix .entry)) (now (matrix .entry)) (now (map .entry)) (now (proof .entry)) (now (marks .entry)) (now (values .entry))) r (tables (now (prefix .exit)) (now (matrix .exit)) (now (map .exit)) (now (proof .exit)) (now (marks .exit)) (now (values .exit))) ⌝ }
+    ensures { λ r. ⌜ CheckedIn (now (formula .entry)) (now (certificate .entry))
+        (six (prefix .entry) (matrix .entry) (map .entry) (proof .entry) (marks .entry) (values .entry)) r
+        (six (prefix .exit) (matrix .exit) (map .exit) (proof .exit) (marks .exit) (values .exit)) ⌝ }
 {
-    if 1048576 < formula.len() {
+    if BYTES < formula.len() {
         return refused_early(1, 1, 0);
     }
-    if 1048576 < certificate.len() {
+    if BYTES < certificate.len() {
         return refused_early(1, 2, 0);
     }
     match formula::read_formula(formula, prefix, matrix) {

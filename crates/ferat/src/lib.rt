@@ -1,19 +1,10 @@
-// FERAT certificates.
-mod adding;
-mod addition;
+// The check of a FERAT certificate: its text, line by line, and both files.
 mod certificate;
 mod checking;
-mod closing;
-mod deleting;
-mod deletion;
-mod expanding;
-mod hints;
-mod index;
+mod clause_lines;
+mod deletion_lines;
+mod hint_lines;
 mod kinds;
-mod mapping;
-mod progress;
-mod propagation;
-mod sequence;
-mod watches;
+mod mapping_lines;
 
 pub use checking::check;

@@ -6,7 +6,7 @@ use lib.ListN.{length, take, drop}
 use Rattle.lines.specs.Lines.{lineAt}
 use Rattle.lines.specs.Parts.{lineStart}
 
--- the two numbers are the line's start and its end, and what stands between them is "that line's bytes without byte 10"; "if the line
+-- the two numbers are the line's start and its end, and what stands between them is "that line's bytes without byte 10"; "If the line
 -- is below 1 or above the count of bytes 10 plus 1, it is the empty part at the end"
 pub record LineEnds (s : List ℕ) (line : ℕ) (ends : List ℕ) : Type 0 where
   pub start : ℕ

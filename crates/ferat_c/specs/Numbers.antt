@@ -4,7 +4,7 @@ use mathlib.Core.List.{List}
 use Prim.Native.Nat.{ℕ}
 use Rattle.rules.specs.declared.Report.{Report}
 use Rattle.report.specs.Fields.{sevenOf}
-use Rattle.ferat.specs.Tables.{Tables}
+use Rattle.tables.specs.Tables.{Tables}
 use Rattle.ferat.specs.Check.{CheckedIn}
 
 -- the report of `ferat::check`, as numbers

@@ -1,6 +1,5 @@
 // The check, with C's calling convention.
-ghost use mathlib.Core.Path.{_≡_};
-ghost use Rattle.ferat.specs.Tables.{tables};
+ghost use Rattle.tables.specs.Tables.{six};
 ghost use Rattle.ferat_c.specs.Numbers.{CheckedNumbers};
 
 // THE CHECK, its seven fields as numbers: the word as 0 (accepted) or 1 (refused), number, file, line, and the three counts.
@@ -16,7 +15,9 @@ pub extern "C" fn hutsvida_check(
     values: &mut [i32],
     seven: &mut [u32; 7],
 )
-    ensures { λ _. ⌜ CheckedNumbers (now (formula .entry)) (now (certificate .entry)) (tables (now (prefix .entry)) (now (matrix .entry)) (now (map .entry)) (now (proof .entry)) (now (marks .entry)) (now (values .entry))) (now (seven .exit)) (tables (now (prefix .exit)) (now (matrix .exit)) (now (map .exit)) (now (proof .exit)) (now (marks .exit)) (now (values .exit))) ⌝ }
+    ensures { λ _. ⌜ CheckedNumbers (now (formula .entry)) (now (certificate .entry))
+        (six (prefix .entry) (matrix .entry) (map .entry) (proof .entry) (marks .entry) (values .entry)) (now (seven .exit))
+        (six (prefix .exit) (matrix .exit) (map .exit) (proof .exit) (marks .exit) (values .exit)) ⌝ }
 {
     *seven = report::numbers(ferat::check(
         formula,

@@ -1,5 +1,4 @@
 // The call for a line's bytes, with C's calling convention.
-ghost use mathlib.Core.Path.{_≡_};
 ghost use Rattle.lines.specs.Parts.{fileOf};
 ghost use Rattle.ferat_c.specs.Ends.{LineEnds};
 use lines::Run;

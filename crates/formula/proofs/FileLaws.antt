@@ -104,9 +104,9 @@ pub record Going (bs : List ℕ) (p₀ m₀ p m : List ℤ) (s : State) (at n : 
   pub bound : boundOf s ≤ at
   pub here : (l : Places) → Sized l p₀ m₀ → Here bs p₀ m₀ p m s at n l
 
-pub going-start : (bs : List ℕ) (p m : List ℤ) → Going bs p m p m State.Start 0 1
+pub going-start : {bs : List ℕ} {p m : List ℤ} → Going bs p m p m State.Start 0 1
 unfolding readFormula judgeFile
-going-start bs p m = record {
+going-start {bs} {p} {m} = record {
   within = omega arith;
   count = omega arith;
   bound = omega arith;
@@ -128,12 +128,12 @@ closes l p₀ m₀ u w (State.Within r) (some f) h a b =
     go true e = record { answer = (h, eqb-true (length (f .matrix)) (f .count) e ∙ sym (h .count)); prefix = a; matrix = b }
     go false e = record { answer = (refl, refl); prefix = a; matrix = b }
 
-pub going-long : (bs : List ℕ) (p₀ m₀ p m : List ℤ) (s : State) (at n : ℕ) → Going bs p₀ m₀ p m s at n → (length p ≡ length p₀) × (length m ≡ length m₀)
-going-long bs p₀ m₀ p m s at n g =
+pub going-long : {bs : List ℕ} {p₀ m₀ p m : List ℤ} {s : State} {at n : ℕ} → Going bs p₀ m₀ p m s at n → (length p ≡ length p₀) × (length m ≡ length m₀)
+going-long {p₀} {m₀} g =
     let k = g .here (places (length p₀) (length m₀) 0 0 0 0) (record { prefix = refl; matrix = refl }) in
     (k .prefix .long, k .matrix .long)
 
-module _ (bs : List ℕ) (p₀ m₀ p m : List ℤ) (s : State) (at n : ℕ) (g : Going bs p₀ m₀ p m s at n) {e : ℕ} (h : e ≡ at + run (passes Line) (drop at bs)) where
+module _ {bs : List ℕ} {p₀ m₀ p m : List ℤ} {s : State} {at n : ℕ} (g : Going bs p₀ m₀ p m s at n) {e : ℕ} (h : e ≡ at + run (passes Line) (drop at bs)) where
   abbrev line : List ℕ
   line = take (e - at) (drop at bs)
 

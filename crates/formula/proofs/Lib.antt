@@ -8,4 +8,3 @@ pub mod BindingLaws
 pub mod ProblemLaws
 pub mod OneLine
 pub mod FileLaws
-pub mod Shown

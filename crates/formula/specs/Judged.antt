@@ -7,6 +7,7 @@ use Prim.Native.Nat.{ℕ, _+_, _≤_}
 use lib.Dec.{eqb}
 use lib.ListN.{length}
 use lib.IntN.{ℤ}
+use denote.Ref.{RefT, now}
 use Rattle.lines.specs.Scan.{tokensFrom}
 use Rattle.cells.specs.Cells.{Kept}
 use Rattle.rules.specs.Basics.{maybe}
@@ -82,6 +83,13 @@ Grows n (Outcome.Refuse k) = Unit {0}
 pub record LineRead (judge : Places → Option Formula → Step (Option Formula)) (s : State) (n : ℕ) (p m : List ℤ) (t : Outcome) (u w : List ℤ) : Type 0 where
   pub judged : (l : Places) (f : Option Formula) → Sized l p m → Holding s p m f → Judged (judge l f) p m t u w
   pub grows : Grows (boundOf s + n) t
+
+-- the same in the tables as a call has them; where the prefix table alone is lent, whatever the matrix table holds
+abbrev pub ReadInBoth : (Places → Option Formula → Step (Option Formula)) → State → RefT (List ℕ) → RefT (List ℤ) → RefT (List ℤ) → Outcome → RefT (List ℤ) → RefT (List ℤ) → Type 0
+ReadInBoth judge s line p m t u w = LineRead judge s (length (now line)) (now p) (now m) t (now u) (now w)
+
+abbrev pub ReadInPrefix : (Places → Option Formula → Step (Option Formula)) → State → RefT (List ℕ) → RefT (List ℤ) → Outcome → RefT (List ℤ) → Type 0
+ReadInPrefix judge s line p t u = (m : List ℤ) → LineRead judge s (length (now line)) (now p) m t (now u) m
 
 -- what reading a line of n bytes asks for
 pub record Able (n : ℕ) (s : State) (m : List ℤ) : Type 0 where

@@ -4,3 +4,4 @@ pub mod Tables
 pub mod Holds
 pub mod Judged
 pub mod Answers
+pub mod Shown

@@ -1,9 +1,7 @@
 // The formula read into its two tables.
 ghost use mathlib.Core.Path.{_≡_};
-ghost use mathlib.Core.List.{List};
-ghost use Prim.Native.Nat.{ℕ, _+_, _≤_};
+ghost use Prim.Native.Nat.{_+_, _≤_};
 ghost use lib.ListN.{length, replicate};
-ghost use lib.IntN.{ℤ};
 ghost use Rattle.lines.specs.Lists.{all};
 ghost use Rattle.lines.specs.Scan.{headOf};
 ghost use Rattle.cells.specs.Cells.{listAt};
@@ -11,13 +9,19 @@ ghost use Rattle.lists.specs.Stores.{codesAt, puts};
 ghost use Rattle.prefix.specs.Prefix.{entry};
 ghost use Rattle.formula.specs.Kinds.{letterKind, kindOf, naturalAt};
 ghost use Rattle.formula.specs.Tables.{isBound, Marks};
-ghost use Rattle.formula.specs.Judged.{problemJudge, bindingJudge, clauseJudge, lineJudge, Able, LineRead};
+ghost use Rattle.formula.specs.Judged.{problemJudge, bindingJudge, clauseJudge, lineJudge, Able, ReadInPrefix, ReadInBoth};
 ghost use Rattle.formula.specs.Answers.{closeOf, Whole, Answered};
+use cells::wide;
 use lines::Found;
 use lines::Head;
 use lines::Literal;
 use lines::Run;
 use lists::Clause;
+
+// Document 01's limits of V and of C.
+const HIGHEST: u32 = 4096;
+
+const MOST: u32 = 8192;
 
 // What is read so far: V, C, how many variables are bound, how many clauses there are and how many places of the matrix table they use.
 pub struct Reading {
@@ -38,12 +42,6 @@ enum State {
 enum Outcome {
     Next(State),
     Refuse(u32),
-}
-
-fn wide(x: u32) -> usize
-    ensures { λ r. ⌜ r ≡ x ⌝ }
-{
-    x as usize
 }
 
 // The word of a variable in the prefix table: 0 if it is not bound.
@@ -90,7 +88,8 @@ enum Marked {
 // The second pass over a prefix line: each variable's place gets its position in the prefix and its quantifier, 1 or 2.
 fn put_binding(line: &[u8], at: usize, q: u32, prefix: &mut [i32], bound: u32) -> Marked
     requires { ⌜ (bound + length (now line) ≤ 1048576) × (q ≤ 2) ⌝ }
-    ensures { λ r. ⌜ Marks q bound (length (now (line .entry))) (codesAt (now (line .entry)) at) (now (prefix .entry)) r (now (prefix .exit)) ⌝ }
+    ensures { λ r. ⌜ Marks q bound (length (now (line .entry))) (codesAt (now (line .entry)) at)
+        (now (prefix .entry)) r (now (prefix .exit)) ⌝ }
 {
     let mut i = at;
     let mut k = bound;
@@ -113,7 +112,7 @@ fn put_binding(line: &[u8], at: usize, q: u32, prefix: &mut [i32], bound: u32) -
 // A prefix line, from the place after its letter on.
 fn binding_line(line: &[u8], at: usize, q: u32, r: Reading, prefix: &mut [i32]) -> Outcome
     requires { ⌜ (r .bound + length (now line) ≤ 1048576) × (1 ≤ q) × (q ≤ 2) ⌝ }
-    ensures { λ t. ⌜ ((m : List ℤ) → LineRead (bindingJudge (now (line .entry)) at q) (State.Within r) (length (now (line .entry))) (now (prefix .entry)) m t (now (prefix .exit)) m) ⌝ }
+    ensures { λ t. ⌜ ReadInPrefix (bindingJudge (now (line .entry)) at q) (State.Within r) (line .entry) (prefix .entry) t (prefix .exit) ⌝ }
 {
     let Clause::Good(s, n, m) = lists::clause_at(line, at) else {
         return Outcome::Refuse(2);
@@ -147,7 +146,8 @@ fn binding_line(line: &[u8], at: usize, q: u32, r: Reading, prefix: &mut [i32]) 
 // A clause line.
 fn clause_line(line: &[u8], r: Reading, prefix: &[i32], matrix: &mut [i32]) -> Outcome
     requires { ⌜ r .used ≤ length (now matrix) ⌝ }
-    ensures { λ t. ⌜ LineRead (clauseJudge (now (line .entry))) (State.Within r) (length (now (line .entry))) (now (prefix .entry)) (now (matrix .entry)) t (now (prefix .entry)) (now (matrix .exit)) ⌝ }
+    ensures { λ t. ⌜ ReadInBoth (clauseJudge (now (line .entry))) (State.Within r) (line .entry)
+        (prefix .entry) (matrix .entry) t (prefix .entry) (matrix .exit) ⌝ }
 {
     let Clause::Good(_, n, most) = lists::clause_at(line, 0) else {
         return Outcome::Refuse(2);
@@ -199,7 +199,7 @@ fn natural_at(line: &[u8], at: usize) -> Natural
 
 // The `p` line, from the place after its letter on.
 fn problem_line(line: &[u8], at: usize, prefix: &mut [i32]) -> Outcome
-    ensures { λ t. ⌜ ((m : List ℤ) → LineRead (problemJudge (now (line .entry)) at) State.Start (length (now (line .entry))) (now (prefix .entry)) m t (now (prefix .exit)) m) ⌝ }
+    ensures { λ t. ⌜ ReadInPrefix (problemJudge (now (line .entry)) at) State.Start (line .entry) (prefix .entry) t (prefix .exit) ⌝ }
 {
     let Found::After(e) = lines::word_is(line, at, b"cnf") else {
         return Outcome::Refuse(2);
@@ -213,10 +213,10 @@ fn problem_line(line: &[u8], at: usize, prefix: &mut [i32]) -> Outcome
     if !lines::ended(line, j) {
         return Outcome::Refuse(2);
     }
-    if 4096 < v {
+    if HIGHEST < v {
         return Outcome::Refuse(3);
     }
-    if 8192 < c {
+    if MOST < c {
         return Outcome::Refuse(3);
     }
     let n = wide(v);
@@ -268,7 +268,7 @@ fn kind_of(line: &[u8]) -> Kind
 
 // A line before the `p` line, or that line.
 fn line_first(line: &[u8], prefix: &mut [i32]) -> Outcome
-    ensures { λ t. ⌜ ((m : List ℤ) → LineRead (lineJudge (now (line .entry))) State.Start (length (now (line .entry))) (now (prefix .entry)) m t (now (prefix .exit)) m) ⌝ }
+    ensures { λ t. ⌜ ReadInPrefix (lineJudge (now (line .entry))) State.Start (line .entry) (prefix .entry) t (prefix .exit) ⌝ }
 {
     match kind_of(line) {
         Kind::Skip => Outcome::Next(State::Start),
@@ -281,7 +281,8 @@ fn line_first(line: &[u8], prefix: &mut [i32]) -> Outcome
 // A line after the `p` line.
 fn line_within(line: &[u8], r: Reading, prefix: &mut [i32], matrix: &mut [i32]) -> Outcome
     requires { ⌜ Able (length (now line)) (State.Within r) (now matrix) ⌝ }
-    ensures { λ t. ⌜ LineRead (lineJudge (now (line .entry))) (State.Within r) (length (now (line .entry))) (now (prefix .entry)) (now (matrix .entry)) t (now (prefix .exit)) (now (matrix .exit)) ⌝ }
+    ensures { λ t. ⌜ ReadInBoth (lineJudge (now (line .entry))) (State.Within r) (line .entry)
+        (prefix .entry) (matrix .entry) t (prefix .exit) (matrix .exit) ⌝ }
 {
     match kind_of(line) {
         Kind::Skip => Outcome::Next(State::Within(r)),
@@ -293,7 +294,8 @@ fn line_within(line: &[u8], r: Reading, prefix: &mut [i32], matrix: &mut [i32]) 
 
 fn read_line(line: &[u8], s: State, prefix: &mut [i32], matrix: &mut [i32]) -> Outcome
     requires { ⌜ Able (length (now line)) s (now matrix) ⌝ }
-    ensures { λ t. ⌜ LineRead (lineJudge (now (line .entry))) s (length (now (line .entry))) (now (prefix .entry)) (now (matrix .entry)) t (now (prefix .exit)) (now (matrix .exit)) ⌝ }
+    ensures { λ t. ⌜ ReadInBoth (lineJudge (now (line .entry))) s (line .entry)
+        (prefix .entry) (matrix .entry) t (prefix .exit) (matrix .exit) ⌝ }
 {
     match s {
         State::Start => line_first(line, prefix),
@@ -322,7 +324,8 @@ fn close(s: State) -> Answer
 // The formula's lines one after the other.
 fn read_lines(formula: &[u8], prefix: &mut [i32], matrix: &mut [i32]) -> Answer
     requires { ⌜ length (now formula) ≤ 1048576 ⌝ }
-    ensures { λ r. ⌜ Whole (now (formula .entry)) (now (prefix .entry)) (now (matrix .entry)) r (now (prefix .exit)) (now (matrix .exit)) ⌝ }
+    ensures { λ r. ⌜ Whole (now (formula .entry))
+        (now (prefix .entry)) (now (matrix .entry)) r (now (prefix .exit)) (now (matrix .exit)) ⌝ }
 {
     let mut s = State::Start;
     let mut at = 0;
@@ -347,9 +350,10 @@ fn read_lines(formula: &[u8], prefix: &mut [i32], matrix: &mut [i32]) -> Answer
 
 // THE FORMULA READ INTO ITS TABLES.
 pub fn read_formula(formula: &[u8], prefix: &mut [i32], matrix: &mut [i32]) -> Answer
-    ensures { λ r. ⌜ Answered (now (formula .entry)) (now (prefix .entry)) (now (matrix .entry)) r (now (prefix .exit)) (now (matrix .exit)) ⌝ }
+    ensures { λ r. ⌜ Answered (now (formula .entry))
+        (now (prefix .entry)) (now (matrix .entry)) r (now (prefix .exit)) (now (matrix .exit)) ⌝ }
 {
-    if 1048576 < formula.len() {
+    if tables::BYTES < formula.len() {
         return Answer::Refused(1, 0);
     }
     read_lines(formula, prefix, matrix)

@@ -19,7 +19,8 @@ pub extern "C" fn hutsvida_read_formula(
     prefix: &mut [i32],
     matrix: &mut [i32],
 ) -> u64
-    ensures { λ r. ⌜ Read (now (formula .entry)) (now (prefix .entry)) (now (matrix .entry)) r (now (prefix .exit)) (now (matrix .exit)) ⌝ }
+    ensures { λ r. ⌜ Read (now (formula .entry))
+        (now (prefix .entry)) (now (matrix .entry)) r (now (prefix .exit)) (now (matrix .exit)) ⌝ }
 {
     pack(formula::read_formula(formula, prefix, matrix))
 }

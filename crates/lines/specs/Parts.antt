@@ -1,6 +1,6 @@
 -- The call for a line's bytes. Assumes nothing.
 use mathlib.Core.Path.{_≡_}
-use mathlib.Core.Bool.{Bool, true, false, cond}
+use mathlib.Core.Bool.{true, false, cond}
 use mathlib.Core.List.{List, [], _∷_}
 use Prim.Native.Nat.{ℕ, zero, suc, _+_}
 use lib.Dec.{eqb}
@@ -15,7 +15,7 @@ afterEnds zero bs = 0
 afterEnds (suc n) [] = 0
 afterEnds (suc n) (b ∷ bs) = elim (isLineEnd b) [ true ↦ suc (afterEnds n bs) | false ↦ suc (afterEnds (suc n) bs) ]
 
--- Where the line with this number starts. "If the line is below 1 or above the count of bytes 10 plus 1, it is the empty part at the end."
+-- Where the line with this number starts. "If the line is below 1 or above the count of bytes 10 plus 1, it is the empty part at the end"
 unfoldable pub lineStart : ℕ → List ℕ → ℕ
 lineStart n bs = elim n [ zero ↦ length bs | suc i ↦ afterEnds i bs ]
 

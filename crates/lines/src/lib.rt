@@ -1,7 +1,7 @@
 // Bytes, lines, tokens and numbers of a file; the call for a line's bytes.
 ghost use mathlib.Core.Path.{_≡_};
-ghost use Prim.Native.Nat.{ℕ, _+_, _*_, _-_, _<_, _≤_, min};
-ghost use lib.ListN.{length, take, drop};
+ghost use Prim.Native.Nat.{_+_, _*_, _-_, _<_, _≤_, min};
+ghost use lib.ListN.{drop};
 ghost use Rattle.lines.specs.Bytes.{classOf, rank, isA, sameBytes};
 ghost use Rattle.lines.specs.Scan.{passes, run, digitsIn, numberIn, literalAt, endedAt, wordIs, headOf, cap};
 ghost use Rattle.lines.specs.Parts.{lineStart, fileOf, LinePart};
@@ -20,11 +20,11 @@ pub fn class_of(b: u8) -> Class
     ensures { λ r. ⌜ r ≡ classOf b ⌝ }
 {
     match b {
-        32 | 9 | 13 => Class::Blank,
+        b' ' | 9 | 13 => Class::Blank,
         10 => Class::LineEnd,
-        48..=57 => Class::Digit,
-        45 => Class::Minus,
-        65..=90 | 97..=122 => Class::Letter,
+        b'0'..=b'9' => Class::Digit,
+        b'-' => Class::Minus,
+        b'A'..=b'Z' | b'a'..=b'z' => Class::Letter,
         _ => Class::Other,
     }
 }
@@ -80,16 +80,19 @@ pub fn past(s: &[u8], at: usize, k: Run) -> usize
     i
 }
 
+// No number is read above this one: it is above every limit.
+const CAP: u32 = 100000000;
+
 // One digit more, at most the cap.
 fn with_digit(v: u32, b: u8) -> u32
     requires { ⌜ (v ≤ cap) × (48 ≤ b) ⌝ }
     ensures { λ r. ⌜ r ≡ min cap (v * 10 + (b - 48)) ⌝ }
 {
-    let w = v * 10 + (b - 48) as u32;
-    if w < 100000000 {
+    let w = v * 10 + (b - b'0') as u32;
+    if w < CAP {
         return w;
     }
-    100000000
+    CAP
 }
 
 pub enum Digits {
@@ -105,7 +108,7 @@ fn digits_from(word: &[u8], from: usize) -> Digits
         return Digits::Bad;
     }
     let d = word[from];
-    if d == 48 {
+    if d == b'0' {
         if from + 1 == word.len() {
             return Digits::Value(0);
         }
@@ -141,7 +144,7 @@ pub fn number_of(word: &[u8]) -> Number
     if word.len() == 0 {
         return Number::Bad;
     }
-    if word[0] != 45 {
+    if word[0] != b'-' {
         return Number::Bad;
     }
     let Digits::Value(v) = digits_from(word, 1) else {
@@ -233,7 +236,7 @@ pub fn line_head(line: &[u8]) -> Head
         return Head::Skipped;
     }
     let b = line[s];
-    if b == 99 {
+    if b == b'c' {
         return Head::Skipped;
     }
     let e = past(line, s, Run::Word);

@@ -8,7 +8,7 @@ use Prim.Native.Nat.{ℕ, zero, suc, _+_, _*_, _-_, _%_, _<_, _≤_, min, max}
 use native.Mathlib.Omega.{arith}
 use native.Mathlib.Numerals.{add-one}
 use lib.ListN.{length, take, drop, getD, set, length-set, length-append, length-map, take-append-drop}
-use lib.Seq.{sets, length-sets, sets-eq, set-out, take-set-le, take-at, drop-at, length-take-le, take-nil, drop-append-add}
+use lib.Seq.{sets, sets-eq, set-out, take-set-le, take-at, drop-at, length-take-le, take-nil, drop-append-add}
 use lib.IntN.{ℤ}
 use lib.IntN.{pos as int}
 use lib.Dec.{eqb, leb}
@@ -30,10 +30,6 @@ use Rattle.lists.specs.Stores.{codesIn, codesAt, puts, written, flat, pl
 use Rattle.lists.proofs.ListLaws.{upto-zero, upto-more, pair-parts, ahead-some, sign-low, Listing, listed-range}
 
 -- STORES FROM A PLACE ON
-pub length-puts : (t : List ℤ) (k : ℕ) (xs : List ℕ) → length (puts t k xs) ≡ length t
-unfolding puts
-length-puts t k xs = length-sets t k (map int xs)
-
 pub puts-more : (t : List ℤ) (k x : ℕ) (xs : List ℕ) → puts t k (x ∷ xs) ≡ puts (set t k (int x)) (k + 1) xs
 unfolding puts
 puts-more t k x xs = ap (λ n. sets (set t k (int x)) n (map int xs)) (sym (add-one k))
@@ -109,31 +105,30 @@ pub record Storing (bs : List ℕ) (at : ℕ) (m₀ : List ℤ) (from i k : ℕ)
   pub long : length m ≡ length m₀
   pub text : puts m k (codesAt bs i) ≡ puts m₀ from (codesAt bs at)
 
-module _ (bs : List ℕ) (at : ℕ) (m₀ : List ℤ) (from : ℕ) where
-  pub storing-start : Storing bs at m₀ from at from m₀
-  storing-start = record { long = refl; text = refl }
+pub storing-start : {bs : List ℕ} {at : ℕ} {m₀ : List ℤ} {from : ℕ} → Storing bs at m₀ from at from m₀
+storing-start = record { long = refl; text = refl }
 
-  module _ (i k : ℕ) (m : List ℤ) (s : Storing bs at m₀ from i k m) where
-    pub storing-full : length m ≤ k → m ≡ puts m₀ from (codesAt bs at)
-    storing-full h = sym (puts-past m k (codesAt bs i) h) ∙ s .text
+module _ {bs : List ℕ} {at : ℕ} {m₀ : List ℤ} {from i k : ℕ} {m : List ℤ} (s : Storing bs at m₀ from i k m) where
+  pub storing-full : length m ≤ k → m ≡ puts m₀ from (codesAt bs at)
+  storing-full h = sym (puts-past m k (codesAt bs i) h) ∙ s .text
 
-    pub storing-lost : literalAt bs i ≡ Literal.Bad → m ≡ puts m₀ from (codesAt bs at)
+  pub storing-lost : literalAt bs i ≡ Literal.Bad → m ≡ puts m₀ from (codesAt bs at)
+  unfolding puts
+  storing-lost p = ap (puts m k) (sym (codes-lost bs i p)) ∙ s .text
+
+  module _ {x e : ℕ} (p : literalAt bs i ≡ Literal.Of x e) {u : List ℤ} (f : u ≡ set m k (int (x % 2147483648))) where
+    is-set : u ≡ set m k (int x)
+    is-set = f ∙ ap (λ y. set m k (int y)) (code-small bs i p)
+
+    pub storing-end : x ≡ 0 → u ≡ puts m₀ from (codesAt bs at)
     unfolding puts
-    storing-lost p = ap (puts m k) (sym (codes-lost bs i p)) ∙ s .text
+    storing-end z = is-set ∙ ap (puts m k) (sym (codes-end bs i p z)) ∙ s .text
 
-    module _ {x e : ℕ} (p : literalAt bs i ≡ Literal.Of x e) {u : List ℤ} (f : u ≡ set m k (int (x % 2147483648))) where
-      is-set : u ≡ set m k (int x)
-      is-set = f ∙ ap (λ y. set m k (int y)) (code-small bs i p)
-
-      pub storing-end : x ≡ 0 → u ≡ puts m₀ from (codesAt bs at)
-      unfolding puts
-      storing-end z = is-set ∙ ap (puts m k) (sym (codes-end bs i p z)) ∙ s .text
-
-      pub storing-more : (x ≡ 0 → ⊥) → Storing bs at m₀ from e (k + 1) u
-      storing-more z = record {
-        long = ap length f ∙ length-set m k (int (x % 2147483648)) ∙ s .long;
-        text = ap (λ v. puts v (k + 1) (codesAt bs e)) is-set ∙ sym (puts-more m k x (codesAt bs e)) ∙ ap (puts m k) (sym (codes-more bs i p z)) ∙ s .text;
-      }
+    pub storing-more : (x ≡ 0 → ⊥) → Storing bs at m₀ from e (k + 1) u
+    storing-more z = record {
+      long = ap length f ∙ length-set m k (int (x % 2147483648)) ∙ s .long;
+      text = ap (λ v. puts v (k + 1) (codesAt bs e)) is-set ∙ sym (puts-more m k x (codesAt bs e)) ∙ ap (puts m k) (sym (codes-more bs i p z)) ∙ s .text;
+    }
 
 -- A LIST AS IT IS STORED
 codes-written : (ts : List Token) (c : Lits) (rest : List Token) → upToZero literal ts ≡ some (c, rest) → greatest (vars c) ≤ cap → codesIn ts ≡ written c
@@ -309,21 +304,3 @@ clause-there t used cs e r i h =
     list-here t (placeOf i cs) (getD cs i []) (k .0)
     (ap (drop (placeOf i cs)) (sym (take-append-drop used (cellsOf t)) ∙ ap (λ l. l ++ drop used (cellsOf t)) e) ∙ k .1)
     (all-at (λ c. inRange 16384 (vars c)) [] cs i r h)
-
--- the next clause starts after the end mark, and the last ends where the clauses end
-pub place-next : (cs : List Lits) (i : ℕ) → i < length cs → placeOf (suc i) cs ≡ placeOf i cs + (length (getD cs i []) + 1)
-unfolding placeOf
-place-next [] i h = absurd (let k = h in omega arith)
-place-next (c ∷ cs) zero h = omega arith
-place-next (c ∷ cs) (suc i) h = let k = place-next cs i (omega arith) in omega arith
-
-pub place-end : (cs : List Lits) → placeOf (length cs) cs ≡ length (flat cs)
-unfolding placeOf flat
-place-end [] = refl
-place-end (c ∷ cs) = let k = place-end cs in omega (arith, length-append (written c) (flat cs), length-written c)
-
-pub place-within : (cs : List Lits) (i : ℕ) → i < length cs → placeOf i cs + length (getD cs i []) < length (flat cs)
-unfolding placeOf flat
-place-within [] i h = absurd (let k = h in omega arith)
-place-within (c ∷ cs) zero h = omega (arith, length-append (written c) (flat cs), length-written c)
-place-within (c ∷ cs) (suc i) h = let k = place-within cs i (omega arith) in omega (arith, length-append (written c) (flat cs), length-written c)

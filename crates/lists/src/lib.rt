@@ -1,8 +1,8 @@
 // The lists of a line, literals up to a zero: a first pass that writes nothing, and a second that stores a list in a table.
 ghost use mathlib.Core.Path.{_≡_};
-ghost use Prim.Native.Nat.{ℕ, max};
 ghost use Rattle.lists.specs.Lists.{listedAt, clauseAt, mappingAt};
 ghost use Rattle.lists.specs.Stores.{codesAt, puts};
+use cells::larger;
 use lines::Literal;
 
 // Literals up to a zero: whether one is negative (0 or 1), how many there are, the largest variable, at most the cap, and the place
@@ -10,15 +10,6 @@ use lines::Literal;
 pub enum Listed {
     Good(u32, usize, u32, usize),
     Bad,
-}
-
-fn larger(a: u32, b: u32) -> u32
-    ensures { λ r. ⌜ r ≡ max a b ⌝ }
-{
-    if a < b {
-        return b;
-    }
-    a
 }
 
 pub fn list_at(line: &[u8], at: usize) -> Listed

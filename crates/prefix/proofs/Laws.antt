@@ -1,24 +1,19 @@
 -- WHAT THE PREFIX TABLE SAYS IS WHAT THE PREFIX SAYS. Assumes nothing.
 use mathlib.Core.Path.{_≡_, refl, ap, ap₂, sym, _∙_}
-use mathlib.Core.Bool.{Bool, true, false, not, cond, _&&_}
+use mathlib.Core.Bool.{Bool, true, false, cond, _&&_}
 use mathlib.Core.List.{List}
-use Prim.Native.Nat.{ℕ, zero, suc, _+_, _-_, _<_, _≤_}
+use Prim.Native.Nat.{ℕ, zero, suc, _+_, _-_, _≤_}
 use native.Mathlib.Omega.{arith}
 use lib.IntN.{ℤ}
 use lib.Dec.{eqb, ltb}
-use borrow.Author.Tests.{ne-eqb, eqb-true, leb-true, lt-ltb, ltb-true}
+use borrow.Author.Tests.{ne-eqb, eqb-true}
 use Rattle.cells.specs.Cells.{cellAt}
-use Rattle.rules.specs.Basics.{isIn, distinct}
+use Rattle.rules.specs.Basics.{isIn}
 use Rattle.rules.specs.Formula.{Formula, bound, universal, existential, dependsOn}
 use Rattle.rules.proofs.Kit.{by-yes, not-f}
-use Rattle.prefix.specs.Prefix.{entry, isUniversal, isExistential, dependency, nested, markFrom, Shows}
+use Rattle.prefix.specs.Prefix.{entry, isUniversal, isExistential, dependency, markFrom, Shows}
+pub use Rattle.prefix.specs.Prefix.{Told}
 use Rattle.prefix.proofs.Marks.{odd, even, mark-in, universal-bound, existential-bound, universal-mark, existential-mark, depends-mark}
-
--- the table shows f's prefix, whose variables are distinct and lie in 1..n
-pub record Told (p : List ℤ) (n : ℕ) (f : Formula) : Type 0 where
-  pub shows : Shows p n (f .prefix)
-  pub once : distinct (bound f) ≡ true
-  pub ranged : (v : ℕ) → isIn (bound f) v ≡ true → (0 < v) × (v ≤ n)
 
 module _ (p : List ℤ) (n : ℕ) (f : Formula) (t : Told p n f) where
   -- variable 0 is never bound
@@ -35,10 +30,6 @@ module _ (p : List ℤ) (n : ℕ) (f : Formula) (t : Told p n f) where
       let e : v + 1 ≡ suc v = omega arith in
       let d : suc v - 1 ≡ v = omega arith in
       ap₂ (λ b i. cond b 0 (cellAt p i)) (ne-eqb (suc v) 0 (λ z. omega arith)) d ∙ t .shows v (omega arith) ∙ ap (markFrom 0 (f .prefix)) e
-
-  -- a variable is bound if its word is not 0
-  pub told-bound : (v : ℕ) → v ≤ n → not (eqb (entry p v) 0) ≡ isIn (bound f) v
-  told-bound v h = ap (λ x. not (eqb x 0)) (word-mark v h) ∙ mark-in 0 (f .prefix) v
 
   -- a bound variable is in the table
   pub universal-ranged : (v : ℕ) → universal f v ≡ true → v ≤ n
@@ -64,12 +55,3 @@ module _ (p : List ℤ) (n : ℕ) (f : Formula) (t : Told p n f) where
       and-cond : (a b : Bool) → cond a b false ≡ a && b
       and-cond true b = refl
       and-cond false b = refl
-
--- what e depends on, g depends on too if it stands no further left
-pub nested-depends : (w : ℕ → ℕ) (e g u : ℕ) → nested w e g ≡ true → dependency w e u ≡ true → dependency w g u ≡ true
-unfolding nested dependency
-nested-depends w e g u h d = go (isUniversal w u) d
-  where
-    go : (b : Bool) → cond b (ltb (w u) (w e)) false ≡ true → cond b (ltb (w u) (w g)) false ≡ true
-    go true k = lt-ltb (w u) (w g) (let x = leb-true (w e) (w g) h in let y = ltb-true (w u) (w e) k in omega arith)
-    go false k = k

@@ -3,11 +3,12 @@
 use mathlib.Core.Path.{_≡_}
 use mathlib.Core.Bool.{Bool, true, false, cond}
 use mathlib.Core.List.{List, [], _∷_}
-use Prim.Native.Nat.{ℕ, _+_, _*_, _-_, _%_, _<_}
+use Prim.Native.Nat.{ℕ, _+_, _*_, _-_, _%_, _<_, _≤_}
 use lib.IntN.{ℤ}
-use lib.Dec.{eqb, leb, ltb}
+use lib.Dec.{eqb, ltb}
 use Rattle.cells.specs.Cells.{cellAt}
-use Rattle.rules.specs.Formula.{Bound, forAll, exists, boundVar}
+use Rattle.rules.specs.Basics.{isIn, distinct}
+use Rattle.rules.specs.Formula.{Bound, forAll, exists, boundVar, Formula, bound}
 
 -- the word of a variable; 0 for variable 0
 unfoldable pub entry : List ℤ → ℕ → ℕ
@@ -25,10 +26,6 @@ module _ (w : ℕ → ℕ) where
   unfoldable pub dependency : ℕ → ℕ → Bool
   dependency e u = cond (isUniversal u) (ltb (w u) (w e)) false
 
-  -- g stands no further left than e: what e depends on, g depends on too
-  unfoldable pub nested : ℕ → ℕ → Bool
-  nested e g = leb (w e) (w g)
-
 -- the number of a quantifier
 abbrev pub kindOf : Bound → ℕ
 kindOf (forAll v) = 1
@@ -42,3 +39,9 @@ markFrom k (b ∷ bs) v = cond (eqb v (boundVar b)) (2 * k + kindOf b) (markFrom
 -- THE TABLE SHOWS THE PREFIX, for the variables up to n
 unfoldable pub Shows : List ℤ → ℕ → List Bound → Type 0
 Shows p n bs = (i : ℕ) → i < n → cellAt p i ≡ markFrom 0 bs (i + 1)
+
+-- the table shows f's prefix, whose variables are distinct and lie in 1..n
+pub record Told (p : List ℤ) (n : ℕ) (f : Formula) : Type 0 where
+  pub shows : Shows p n (f .prefix)
+  pub once : distinct (bound f) ≡ true
+  pub ranged : (v : ℕ) → isIn (bound f) v ≡ true → (0 < v) × (v ≤ n)

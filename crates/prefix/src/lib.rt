@@ -1,6 +1,6 @@
 // What the prefix table says of a variable: its quantifier, and which universals an existential depends on.
 ghost use mathlib.Core.Path.{_≡_};
-ghost use Rattle.prefix.specs.Prefix.{entry, isUniversal, isExistential, dependency, nested};
+ghost use Rattle.prefix.specs.Prefix.{entry, isUniversal, isExistential, dependency};
 
 // The word of a variable or of a copy, in a table with a place for each; 0 for variable 0 and past the end.
 pub fn word(table: &[i32], v: usize) -> u32
@@ -36,11 +36,4 @@ pub fn depends(prefix: &[i32], e: usize, u: usize) -> bool
         return word(prefix, u) < word(prefix, e);
     }
     false
-}
-
-// Whether g stands no further left than e: then e depends on nothing but what g depends on.
-pub fn nested(prefix: &[i32], e: usize, g: usize) -> bool
-    ensures { λ r. ⌜ r ≡ nested (entry (now (prefix .entry))) e g ⌝ }
-{
-    word(prefix, e) <= word(prefix, g)
 }

@@ -14,7 +14,7 @@ abbrev pub wordNumber : Verdict → ℕ
 wordNumber Accepted = 0
 wordNumber (Refused number file line) = 1
 
--- "A verdict is word, number, file, line, and the `e`, addition and deletion lines accepted."
+-- "A verdict is word, number, file (0 none, 1 formula, 2 certificate), line, and the `e`, addition and deletion lines accepted."
 unfoldable pub sevenOf : Report → List ℕ
 sevenOf r =
     wordNumber (r .verdict) ∷ numberOf (r .verdict) ∷ fileOf (r .verdict) ∷ lineOf (r .verdict) ∷ r .expansions ∷ r .additions ∷ r .deletions ∷ []

@@ -67,7 +67,7 @@ fn digit(n: u32) -> u8
     requires { ⌜ n < 10 ⌝ }
     ensures { λ b. ⌜ b ≡ 48 + n ⌝ }
 {
-    48 + n as u8
+    b'0' + n as u8
 }
 
 // A number in base ten.
@@ -87,14 +87,15 @@ fn put_field(out: &mut [u8], at: usize, n: u32) -> usize
     requires { ⌜ at + 11 ≤ length (now out) ⌝ }
     ensures { λ k. ⌜ Written (now (out .entry)) at (44 ∷ numeral n) (now (out .exit)) k × (k ≤ at + 11) ⌝ }
 {
-    let k = put_byte(out, at, 44);
+    let k = put_byte(out, at, b',');
     put_decimal(out, k, n)
 }
 
 // Each number after a comma.
 fn put_fields(out: &mut [u8], at: usize, fields: &[u32]) -> usize
     requires { ⌜ at + 11 * length (now fields) ≤ length (now out) ⌝ }
-    ensures { λ k. ⌜ Written (now (out .entry)) at (afterCommas (now (fields .entry))) (now (out .exit)) k × (k ≤ at + 11 * length (now (fields .entry))) ⌝ }
+    ensures { λ k. ⌜ Written (now (out .entry)) at (afterCommas (now (fields .entry))) (now (out .exit)) k
+        × (k ≤ at + 11 * length (now (fields .entry))) ⌝ }
 {
     let mut k = at;
     let mut i = 0;
@@ -114,7 +115,7 @@ fn put_line(r: Report, out: &mut [u8]) -> usize
     let v = r.verdict;
     let w = put_word(out, v);
     let k = put_fields(out, w, &fields[1..7]);
-    put_byte(out, k, 10)
+    put_byte(out, k, b'\n')
 }
 
 // The seven fields parted by commas, then byte 10; the answer is the count of these bytes.

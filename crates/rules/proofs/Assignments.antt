@@ -1,17 +1,16 @@
 -- The assignments t of an expansion hold literals of universals, and never both signs of one variable.
 use mathlib.Core.Path.{_≡_, refl, sym, ap, subst, _∙_}
 use mathlib.Core.Logic.{_⊎_, inl, inr}
-use mathlib.Core.Bool.{Bool, true, false, not}
+use mathlib.Core.Bool.{true, false}
 use mathlib.Core.List.{List, [], _∷_, _++_, map, List·Memᴰ·head, List·Memᴰ·tail, List·Memᴰ·not-nil, List·Memᴰ·cases-cons, List·Memᴰ·append-cases, List·Memᴰ·eq-of-singleton, Memᴰ·cast, Memᴰ·of-map}
 use Prim.Native.Nat.{ℕ}
-use lib.Dec.{eqb}
 use Rattle.lines.specs.Lists.{keep}
-use Rattle.rules.specs.Basics.{isIn, distinct}
+use Rattle.rules.specs.Basics.{distinct}
 use Rattle.rules.specs.Literals.{Lit, pos, neg, Lits, var, negate, holds, bothSigns}
 use Rattle.rules.specs.Formula.{Formula, bound, universal}
 use Rattle.rules.specs.Expansion.{assignmentsOver, assignments}
-use Rattle.rules.proofs.Kit.{clear, and-l, and-r, and-i, not-t, not-of-f, by-yes, eqb-eq, eqb-self, either, In, in-any, any-in, in-keep, holds-in, var-negate, negate-other}
-use Rattle.rules.proofs.Distinct.{in-isIn, isIn-in, distinct-head, distinct-tail, distinct-keep}
+use Rattle.rules.proofs.Kit.{clear, by-yes, either, In, any-in, in-keep, holds-in, var-negate, negate-other}
+use Rattle.rules.proofs.Distinct.{in-isIn, distinct-head, distinct-tail, distinct-keep}
 
 -- no literal with its negation
 abbrev pub Apart : Lits → Type 0

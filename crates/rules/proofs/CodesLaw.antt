@@ -1,15 +1,14 @@
 -- Codes and literals are the same thing. Assumes nothing.
 use mathlib.Core.Path.{_≡_, refl, sym, ap, ap₂, _∙_}
 use mathlib.Core.Bool.{Bool, true, false, cond}
-use mathlib.Core.List.{List, [], _∷_, map}
-use Prim.Native.Nat.{ℕ, _+_, _*_, _-_, _/_, _%_}
+use mathlib.Core.List.{[], _∷_, map}
+use Prim.Native.Nat.{ℕ, _+_, _*_, _/_, _%_}
 use native.Mathlib.Omega.{arith}
 use lib.Dec.{eqb}
 use borrow.Author.Tests.{eq-eqb, ne-eqb, eqb-true, eqb-false}
-use Rattle.lines.specs.Lists.{any}
 use Rattle.rules.specs.Basics.{isIn}
 use Rattle.rules.specs.Literals.{Lit, pos, neg, Lits, var, negate, same, holds}
-use Rattle.rules.specs.Codes.{sign, codeOf, litOf, flip}
+use Rattle.rules.specs.Codes.{codeOf, litOf, flip}
 use Rattle.rules.proofs.Kit.{same-eq, same-self, by-yes}
 
 pub lit-code : (l : Lit) → litOf (codeOf l) ≡ l
@@ -49,9 +48,6 @@ pub var-code : (l : Lit) → codeOf l / 2 ≡ var l
 var-code (pos n) = omega arith
 var-code (neg n) = omega arith
 
-pub var-lit : (c : ℕ) → var (litOf c) ≡ c / 2
-var-lit c = sym (var-code (litOf c)) ∙ ap (λ n. n / 2) (code-lit c)
-
 -- the same literal is the same code
 pub same-code : (l m : Lit) → same l m ≡ eqb (codeOf l) (codeOf m)
 same-code l m = go (eqb (codeOf l) (codeOf m)) refl
@@ -69,7 +65,3 @@ holds-code (m ∷ c) l = ap₂ (λ a b. mathlib.Core.Bool._||_ a b) (same-code l
 pub lits-codes : (c : Lits) → map litOf (map codeOf c) ≡ c
 lits-codes [] = refl
 lits-codes (l ∷ c) = ap₂ (λ x y. x ∷ y) (lit-code l) (lits-codes c)
-
-pub codes-lits : (cs : List ℕ) → map codeOf (map litOf cs) ≡ cs
-codes-lits [] = refl
-codes-lits (c ∷ cs) = ap₂ (λ x y. x ∷ y) (code-lit c) (codes-lits cs)

@@ -1,6 +1,6 @@
 -- An accepted expansion is true where each copy has the value of its existential.
 use mathlib.Core.Path.{_≡_, refl, sym, ap, _∙_}
-use mathlib.Core.Bool.{Bool, true, false, not, _&&_, _||_, false≢true}
+use mathlib.Core.Bool.{Bool, true, not, _&&_, _||_}
 use mathlib.Core.List.{List, map, Memᴰ·map, Memᴰ·of-map}
 use Prim.Native.Nat.{ℕ}
 use Rattle.lines.specs.Lists.{all}
@@ -8,7 +8,7 @@ use Rattle.rules.specs.Basics.{distinct}
 use Rattle.rules.specs.Literals.{Lit, pos, neg, Lits, var, vars, negate, over, holds, within, sameSet}
 use Rattle.rules.specs.Formula.{Formula, bound, universal, existential, dependsOn}
 use Rattle.rules.specs.Expansion.{Copy, standsFor, annotation, existentials, part, assignments, falsifies, sameLiterals, annotatedBy, expandsBy, expands}
-use Rattle.rules.proofs.Kit.{clear, and-l, and-r, or-cases, by-yes, either, In, all-in, in-any, Some, any-in, keep-in, in-keep, holds-in, in-holds, same-test}
+use Rattle.rules.proofs.Kit.{clear, and-l, and-r, or-cases, either, In, all-in, in-any, Some, any-in, keep-in, in-keep, holds-in, in-holds, same-test}
 use Rattle.rules.proofs.Assignments.{Apart, assignments-apart}
 use Rattle.rules.proofs.Valuation.{Valuation, value, satisfied, value-negate, value-at, value-over, completed, completed-true}
 use Rattle.rules.proofs.Strategy.{Strategy}

@@ -8,7 +8,6 @@ pub mod Good
 pub mod Inductive
 pub mod Assignments
 pub mod ExpansionLaw
-pub mod ExpansionTests
 pub mod ProperLaw
 pub mod Ranges
 pub mod Valuation

@@ -1,5 +1,5 @@
 -- The verdicts' numbers at their borders, over the same statement as the twelve. Assumes nothing.
-use mathlib.Core.Path.{_≡_, refl}
+use mathlib.Core.Path.{refl}
 use mathlib.Core.List.{List, [], _∷_}
 use Rattle.lines.specs.Bytes.{classOf}
 use Rattle.rules.specs.Verdict.{the-rules}

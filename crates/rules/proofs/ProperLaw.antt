@@ -1,24 +1,22 @@
 -- Rules 7 and 8 keep the mapping proper: every state that the certificate's lines lead to has a proper mapping.
-use mathlib.Core.Path.{_≡_, refl, sym, ap, subst, _∙_}
-use mathlib.Core.Bool.{Bool, true, not, _&&_}
-use mathlib.Core.List.{List, [], _∷_, _++_, List·Memᴰ·head, List·Memᴰ·tail, List·Memᴰ·not-nil, List·Memᴰ·cases-cons, List·Memᴰ·append-cases, Memᴰ·cast, Memᴰ·append-left, Memᴰ·append-right}
-use mathlib.Core.Option.{Option, none, some}
-use Prim.Native.Nat.{ℕ, suc}
-use lib.ListN.{length}
-use Rattle.lines.specs.Lines.{linesOf}
+use mathlib.Core.Path.{_≡_, refl, ap, subst, _∙_}
+use mathlib.Core.Bool.{Bool, true, _&&_}
+use mathlib.Core.List.{List, [], _∷_, _++_, List·Memᴰ·head, List·Memᴰ·tail, List·Memᴰ·not-nil, List·Memᴰ·cases-cons, List·Memᴰ·append-cases}
+use mathlib.Core.Option.{none}
+use Prim.Native.Nat.{ℕ}
 use Rattle.lines.specs.Lists.{all}
-use Rattle.rules.specs.Basics.{distinct, isIn}
+use Rattle.rules.specs.Basics.{distinct}
 use Rattle.rules.specs.Literals.{Lits, var, vars}
 use Rattle.rules.specs.Formula.{Formula, universal, existential, dependsOn}
-use Rattle.rules.specs.Forms.{CertificateLine, mapping, hints, expansion, addition, deletion, certificateLine}
+use Rattle.rules.specs.Forms.{CertificateLine, mapping, hints, expansion, addition, deletion}
 use Rattle.rules.specs.Limits.{Limits}
-use Rattle.rules.specs.Step.{Step, next, refuse, ended, _unless_, judgeBytes}
+use Rattle.rules.specs.Step.{next, _unless_}
 use Rattle.rules.specs.Expansion.{Copy, copies, copyVars, goodAnnotation, mappingRules}
 use Rattle.rules.specs.Least.{ProperCopy, Proper}
-use Rattle.rules.specs.CertificateLines.{State, start, needing, kindRules, accept, judge, certificateEnd, readCertificate}
-use Rattle.rules.proofs.Kit.{clear, and-i, and-l, and-r, not-of-f, by-yes, either, In, all-in}
-use Rattle.rules.proofs.Judged.{judged, OfRules, OfStep, OfRead, file-keeps, bytes-keep}
-use Rattle.rules.proofs.Distinct.{in-isIn, isIn-in, distinct-head, distinct-tail, distinct-cons, distinct-new, distinct-append, append-distinct}
+use Rattle.rules.specs.CertificateLines.{State, start, needing, kindRules, accept, judge}
+use Rattle.rules.proofs.Kit.{and-l, and-r, either, In, all-in}
+use Rattle.rules.proofs.Judged.{judged}
+use Rattle.rules.proofs.Distinct.{distinct-tail, distinct-cons, distinct-new, distinct-append, append-distinct}
 use Rattle.rules.proofs.Steps.{unless-none, then-none}
 
 copies-vars-in : (ps es : List ℕ) (ls : Lits) (n : ℕ) → In n (copyVars (copies ps es ls)) → In n ps
@@ -98,25 +96,3 @@ module _ (f : Formula) where
     proper-step s line s′ p e =
         let j = judged limits f s line s′ e in
         subst (λ (z : State). Proper f (z .mapped)) (j .after) (proper-accept (needing s line) line p (j .kind))
-
-    step-keeps : (s : State) (line : CertificateLine) → Proper f (s .mapped)
-        → OfStep (λ (s : State). Proper f (s .mapped)) (λ n s. Unit {0}) (judge limits f s line)
-    step-keeps s line p = go (judge limits f s line) refl
-      where
-        go : (r : Step State) → judge limits f s line ≡ r → OfStep (λ (s : State). Proper f (s .mapped)) (λ n s. Unit {0}) r
-        go (next s′) e = proper-step s line s′ p e
-        go (refuse n s′) e = tt
-
-    -- EVERY STATE that accepted lines lead to: the state at the file's end
-    pub proper-read : (bs : List ℕ) (s : State) → readCertificate limits f bs ≡ ended s → Proper f (s .mapped)
-    unfolding readCertificate
-    proper-read bs s e =
-        subst (OfRead (λ (s : State). Proper f (s .mapped)) (λ n s. Unit {0}) (certificateEnd limits f) (suc (length (linesOf bs)))) e
-        (file-keeps (λ (s : State). Proper f (s .mapped)) (λ n s. Unit {0}) (judgeBytes certificateLine (judge limits f))
-        (certificateEnd limits f)
-        (bytes-keep (λ (s : State). Proper f (s .mapped)) (λ n s. Unit {0}) certificateLine (judge limits f) (λ s p. tt) step-keeps)
-        (λ s p. no-rule (certificateEnd limits f s) s) bs (start f) proper-start) .0
-      where
-        no-rule : (r : Option ℕ) (s : State) → OfRules (λ (s : State). Proper f (s .mapped)) (λ n s. Unit {0}) r s
-        no-rule none s = tt
-        no-rule (some n) s = tt

@@ -2,15 +2,14 @@
 use mathlib.Core.Path.{_≡_, refl, sym, ap, subst, _∙_}
 use mathlib.Core.Logic.{_⊎_, inl, inr, _↔_}
 use mathlib.Core.Bool.{Bool, true, false, cond, _&&_, _||_}
-use mathlib.Core.List.{List, [], _∷_, _++_, map}
+use mathlib.Core.List.{List, _++_, map}
 use mathlib.Core.Option.{Option, none, some}
-use Prim.Native.Nat.{ℕ, suc, _+_, _≤_, _<_}
+use Prim.Native.Nat.{ℕ, suc, _+_, _≤_}
 use native.Mathlib.Omega.{arith}
 use lib.Dec.{eqb, leb}
 use lib.ListN.{length}
-use Rattle.lines.specs.Bytes.{isLineEnd}
-use Rattle.lines.specs.Lists.{all, any, keep, isEmpty}
-use Rattle.lines.specs.Lines.{longer, split, linesOf}
+use Rattle.lines.specs.Lists.{all, any, isEmpty}
+use Rattle.lines.specs.Lines.{linesOf}
 use Rattle.rules.specs.Basics.{isIn, distinct}
 use Rattle.rules.specs.Literals.{vars, sameSet}
 use Rattle.rules.specs.Formula.{Formula, boundVar, bound, existential}
@@ -26,7 +25,6 @@ use Rattle.rules.specs.declared.Verdict.{Verdict}
 use Rattle.rules.specs.declared.Verdict.the-variants.{Accepted, Refused}
 use Rattle.rules.specs.Verdict.{numberOf, fileOf, lineOf, Checked, early, ofCertificate, ofFormula, check, verdict}
 use Rattle.rules.proofs.Judged.{OfRules, OfStep, OfRead, of-unless, of-then, of-refuseIn, file-keeps, bytes-keep}
-use Rattle.lines.proofs.Parts.{lines-count}
 
 -- "Number 1 .. 15"
 abbrev pub IsNumber : ℕ → Type 0
@@ -253,16 +251,3 @@ pub verdict-ranged : (limits : Limits) (formula certificate : List ℕ)
 unfolding verdict
 verdict-ranged limits formula certificate =
     ranged formula certificate (check limits formula certificate .report .verdict) (check-fine limits formula certificate)
-
--- a file has at most one line more than bytes
-keep-most : (p : ℕ → Bool) (bs : List ℕ) → length (keep p bs) ≤ length bs
-keep-most p [] = omega arith
-keep-most p (b ∷ bs) = go (p b) (keep-most p bs)
-  where
-    go : (t : Bool) → length (keep p bs) ≤ length bs
-        → length {A = ℕ} (elim t as (λ _. List ℕ) [ true ↦ b ∷ keep p bs | false ↦ keep p bs ]) ≤ suc (length bs)
-    go true h = omega arith
-    go false h = omega arith
-
-pub lines-most : (bs : List ℕ) → length (linesOf bs) ≤ suc (length bs)
-lines-most bs = omega (arith, lines-count bs, keep-most isLineEnd bs)

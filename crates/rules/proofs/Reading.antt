@@ -1,7 +1,7 @@
 -- What a formula that was read keeps of the rules; limits change no formula that they let through.
-use mathlib.Core.Path.{_≡_, refl, sym, ap, subst, _∙_}
-use mathlib.Core.Bool.{true, not, _&&_}
-use mathlib.Core.List.{List, [], _∷_, _++_, map, map-append, List·Memᴰ·head, List·Memᴰ·tail, List·Memᴰ·append-cases, Memᴰ·append-left, Memᴰ·append-right}
+use mathlib.Core.Path.{_≡_, refl, ap, subst, _∙_}
+use mathlib.Core.Bool.{true, _&&_}
+use mathlib.Core.List.{List, _++_, map, map-append}
 use mathlib.Core.Option.{Option, none, some}
 use Prim.Native.Nat.{ℕ, _+_}
 use lib.Dec.{eqb, leb}
@@ -17,9 +17,9 @@ use Rattle.rules.specs.Limits.{Limits, allows, hasRoom, setAside}
 use Rattle.rules.specs.Step.{_unless_, _then_, next, ended, refuseIn, judgeFile, judgeBytes}
 use Rattle.rules.specs.FormulaLines.{blank, withBound, withClause, upToV, judgeFormula, formulaEnd, readFormula}
 use Rattle.rules.specs.Falsity.{formulaRead, formulaOf}
-use Rattle.rules.proofs.Kit.{clear, and-i, not-of-f, by-yes, eqb-eq, either, In}
+use Rattle.rules.proofs.Kit.{eqb-eq, either}
 use Rattle.rules.proofs.Steps.{unless-none, then-none, next-same, refused, refuse-next, refuse-none, lines-keep, lines-same, bytes-next, bytes-same}
-use Rattle.rules.proofs.Distinct.{distinct-swap, in-isIn, isIn-in, distinct-head, distinct-tail}
+use Rattle.rules.proofs.Distinct.{distinct-swap}
 
 -- what the rules 4 and 6 leave of a formula
 pub record Formed (f : Formula) : Type 0 where

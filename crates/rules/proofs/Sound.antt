@@ -14,16 +14,16 @@ use Rattle.rules.specs.Basics.{maybe}
 use Rattle.rules.specs.Literals.{Lits, vars, sameSet}
 use Rattle.rules.specs.Formula.{Formula}
 use Rattle.rules.specs.Forms.{CertificateLine, mapping, hints, expansion, addition, deletion, certificateLine}
-use Rattle.rules.specs.Limits.{Limits, hasRoom}
+use Rattle.rules.specs.Limits.{Limits}
 use Rattle.rules.specs.Propagation.{rup, rat}
 use Rattle.rules.specs.Expansion.{copies, isMapped, expands}
-use Rattle.rules.specs.Step.{_unless_, _then_, next, ended, refuseIn, judgeFile, judgeBytes}
+use Rattle.rules.specs.Step.{_unless_, _then_, next, ended, judgeFile, judgeBytes}
 use Rattle.rules.specs.CertificateLines.{State, start, needing, beforeAdditions, beforeHints, inSequence, hintThere, noHintLeft, candidates, inRange, kindRules, accept, judge, certificateEnd, readCertificate}
 use Rattle.rules.proofs.Kit.{and-l, and-r, or-cases, eqb-eq, either, In, all-in, any-in}
 use Rattle.rules.proofs.Valuation.{Valuation, satisfied, allSatisfied, satisfied-more}
 use Rattle.rules.proofs.SatSound.{rup-sound, Model, rat-sound, without-satisfied, empty-stands}
 use Rattle.rules.proofs.Strategy.{Strategy}
-use Rattle.rules.proofs.Steps.{unless-none, then-none, next-same, refuse-next, lines-keep, bytes-next}
+use Rattle.rules.proofs.Steps.{unless-none, then-none, lines-keep, bytes-next}
 use Rattle.rules.proofs.Reading.{Formed}
 use Rattle.rules.proofs.HintsForm.{HintsPositive, LineRead, certificate-read}
 use Rattle.rules.proofs.ExpansionSound.{copyValue, expands-true}

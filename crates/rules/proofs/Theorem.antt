@@ -1,8 +1,8 @@
 -- THE THEOREM: an accepted certificate makes its formula false, whatever the limits and the table lengths; and so for every list of
 -- checks.
-use mathlib.Core.Path.{_≡_, refl, sym, subst}
+use mathlib.Core.Path.{_≡_, refl}
 use mathlib.Core.Bool.{Bool, true, false, cond}
-use mathlib.Core.List.{List, [], _∷_, List·Memᴰ·head, List·Memᴰ·tail}
+use mathlib.Core.List.{List, [], _∷_}
 use mathlib.Core.Option.{Option, none, some}
 use Prim.Native.Nat.{ℕ}
 use native.Mathlib.Omega.{arith}
@@ -16,7 +16,7 @@ use Rattle.rules.specs.CertificateLines.{State, readCertificate}
 use Rattle.rules.specs.Falsity.{FalseFile, isFalse}
 use Rattle.rules.specs.Verdict.{Checked, early, ofCertificate, ofFormula, check, verdict}
 use Rattle.rules.specs.declared.Verdict.the-variants.{Accepted, Refused}
-use Rattle.rules.proofs.Kit.{by-no, In}
+use Rattle.rules.proofs.Kit.{by-no}
 use Rattle.rules.proofs.FalsityLaw.{decides}
 use Rattle.rules.proofs.Play.{strategy}
 use Rattle.rules.proofs.Reading.{Formed, read-formed, read-same}
@@ -83,10 +83,6 @@ pub record Check : Type 0 where
 abbrev pub Every : {A : Type 0} → (A → Type 0) → List A → Type 0
 Every P [] = Unit {0}
 Every P (x ∷ xs) = P x × Every P xs
-
-pub every-in : {A : Type 0} (P : A → Type 0) {x : A} {xs : List A} → Every P xs → In x xs → P x
-every-in P e (List·Memᴰ·head q) = subst P (sym q) (e .0)
-every-in P e (List·Memᴰ·tail i) = every-in P (e .1) i
 
 -- one statement about a whole list of checks
 pub all-false : (checks : List Check)

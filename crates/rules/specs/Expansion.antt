@@ -6,7 +6,7 @@ use Prim.Native.Nat.{ℕ}
 use lib.Dec.{eqb}
 use Rattle.lines.specs.Lists.{all, any, keep}
 use Rattle.rules.specs.Basics.{distinct}
-use Rattle.rules.specs.Literals.{Lit, pos, neg, Lits, var, vars, negate, over, holds, sameSet}
+use Rattle.rules.specs.Literals.{pos, neg, Lits, var, vars, negate, over, holds, sameSet}
 use Rattle.rules.specs.Formula.{Formula, bound, universal, existential, dependsOn}
 use Rattle.rules.specs.Step.{_unless_, _then_}
 

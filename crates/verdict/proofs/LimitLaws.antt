@@ -15,9 +15,9 @@ use Rattle.rules.specs.CertificateLines.{readCertificate}
 use Rattle.rules.specs.Verdict.{Checked, early, ofCertificate, ofFormula, check, verdict, the-rules}
 use Rattle.rules.specs.declared.Verdict.the-variants.{Refused}
 use Rattle.rules.specs.declared.Report.{Report}
-use Rattle.ferat.specs.Tables.{Tables, lengthsOf, KeptAll}
+use Rattle.tables.specs.Tables.{Tables, lengthsOf, KeptAll}
 use Rattle.ferat.specs.Check.{refusedEarly, CheckedIn}
-use Rattle.ferat.proofs.Frames.{all-self}
+use Rattle.tables.proofs.Frames.{all-self}
 use Rattle.verdict.specs.Program.{ReportedIn}
 
 -- THE LINES OF A FILE are judged alike whatever bytes a file may have

@@ -5,7 +5,7 @@ use Prim.Native.Nat.{ℕ}
 use Rattle.rules.specs.Limits.{programLimits}
 use Rattle.rules.specs.Verdict.{check, verdict}
 use Rattle.rules.specs.declared.Report.{Report}
-use Rattle.ferat.specs.Tables.{Tables, lengthsOf, KeptAll}
+use Rattle.tables.specs.Tables.{Tables, lengthsOf, KeptAll}
 
 -- The report that the program prints, t being the tables before and u after: "the program below holds 16,384 bytes of formula and
 -- 65,536 of certificate, and prints refusal 1 for a longer one"; "places beyond the need,

@@ -2,12 +2,17 @@
 ghost use mathlib.Core.Path.{_≡_};
 ghost use Prim.Native.Nat.{_≤_};
 ghost use lib.ListN.{length};
-ghost use Rattle.ferat.specs.Tables.{tables};
+ghost use Rattle.tables.specs.Tables.{six};
 ghost use Rattle.ferat.specs.Check.{refusedEarly};
 ghost use Rattle.verdict.specs.Program.{ReportedIn};
 use libc::STDOUT_FILENO;
 use rules::Report;
 use rules::Verdict;
+
+// The program holds so many bytes of each file.
+const FORMULA: usize = 16384;
+
+const CERTIFICATE: usize = 65536;
 
 // Reads a file from its start and answers how many bytes; one that does not open, or cannot be read, is empty.
 fn load(path: &[u8], bytes: &mut [u8]) -> usize
@@ -49,12 +54,14 @@ fn report_of(
     marks: &mut [i32],
     values: &mut [i32],
 ) -> Report
-    ensures { λ r. ⌜ ReportedIn (now (formula .entry)) (now (certificate .entry)) (tables (now (prefix .entry)) (now (matrix .entry)) (now (map .entry)) (now (proof .entry)) (now (marks .entry)) (now (values .entry))) r (tables (now (prefix .exit)) (now (matrix .exit)) (now (map .exit)) (now (proof .exit)) (now (marks .exit)) (now (values .exit))) ⌝ }
+    ensures { λ r. ⌜ ReportedIn (now (formula .entry)) (now (certificate .entry))
+        (six (prefix .entry) (matrix .entry) (map .entry) (proof .entry) (marks .entry) (values .entry)) r
+        (six (prefix .exit) (matrix .exit) (map .exit) (proof .exit) (marks .exit) (values .exit)) ⌝ }
 {
-    if 16384 < formula.len() {
+    if FORMULA < formula.len() {
         return refuse_overlong(1);
     }
-    if 65536 < certificate.len() {
+    if CERTIFICATE < certificate.len() {
         return refuse_overlong(2);
     }
     ferat::check(

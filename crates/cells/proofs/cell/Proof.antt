@@ -6,36 +6,28 @@ use Rattle.cells.specs.Cells.{cellAt}
 use Rattle.cells.proofs.Laws.{read-cast, read-num, read-neg, at-past}
 use Rattle.cells.proofs.cell.Statement.{statement}
 use Rattle.cells.proofs.cell.Tie as tie
-use Rattle.cells.proofs.cell.Reads as reads
-use Rattle.cells.proofs.cell.Lts as lts
 
 -- the cell that is read
 abbrev x : tie.Start → ℤ
 x c = getD (now (c .args .t)) (c .args .i) (pos 0)
 
--- src/lib.rt:12:17
 mul-x : tie.Need-mul-x
 mul-x c = search needs
 
--- src/lib.rt:12:17
 shared-slice-copy-out-x : tie.Need-shared-slice-copy-out-x
 shared-slice-copy-out-x c = search needs
 
--- src/lib.rt:14:20
 cast-result : tie.Need-cast-result
 cast-result c = read-cast (x (c .before .before .before)) (sfits-of (c .before .x .given)) (c .if2 .taken)
 
--- src/lib.rt:14:13
 returns : tie.Need-returns
 unfolding cellAt
 returns c = read-num (x (c .before .before .before)) (sfits-of (c .before .x .given)) (c .if2 .taken)
 
--- src/lib.rt:8:1
 returns-2 : tie.Need-returns-2
 unfolding cellAt
 returns-2 c = read-neg (x (c .before .before .before)) (sfits-of (c .before .x .given)) (c .if2 .left)
 
--- src/lib.rt:8:1
 returns-3 : tie.Need-returns-3
 unfolding cellAt
 returns-3 c = at-past (now (c .before .args .t)) (c .before .args .i) (c .if1 .left)

@@ -1,37 +1,28 @@
 use borrow.Author.Needs.{needs}
 use native.Mathlib.Omega.{arith}
-use mathlib.Core.Path.{ap, sym}
+use mathlib.Core.Path.{sym}
 use Prim.Native.Nat.{_<_, _%_, _^_}
 use mir.Syntax.{w32}
 use mir.Facts.{toZ-pos}
-use lib.ListN.{set}
 use lib.Seq.{set-out}
 use Rattle.cells.proofs.put.Statement.{statement}
 use Rattle.cells.proofs.put.Tie as tie
-use Rattle.cells.proofs.put.Reads as reads
-use Rattle.cells.proofs.put.Lts as lts
 
--- src/lib.rt:26:16
 cast-t : tie.Need-cast-t
 cast-t c = search needs
 
--- src/lib.rt:26:9
 mul-t8 : tie.Need-mul-t8
 mul-t8 c = search needs
 
--- src/lib.rt:26:9
 slice-set-from-t : tie.Need-slice-set-from-t
 slice-set-from-t c = search needs
 
--- src/lib.rt:22:1
 same-length : tie.Need-same-length
 same-length c = search needs
 
--- src/lib.rt:22:1
 returns : tie.Need-returns
 returns c = let h : c .before .args .v % 2147483648 < 2 ^ 31 = omega arith in rw (toZ-pos w32 h)
 
--- src/lib.rt:22:1
 returns-2 : tie.Need-returns-2
 returns-2 c = sym (set-out _ _ _ (c .if1 .left))
 

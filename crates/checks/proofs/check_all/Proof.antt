@@ -1,9 +1,8 @@
-use borrow.Author.Needs.{needs}
 use native.Mathlib.Omega.{arith}
 use mathlib.Core.Path.{ap}
 use Prim.Native.Nat.{_≤_, _-_}
 use lib.ListN.{length}
-use Rattle.ferat.specs.Tables.{tables}
+use Rattle.tables.specs.Tables.{tables}
 use Rattle.rules.specs.Needs.{Places}
 use Rattle.checks.proofs.ListLaws.{Going, going-start, going-more, going-end, going-lengths, going-out}
 use Rattle.checks.proofs.check_all.Statement.{statement}
@@ -23,44 +22,38 @@ loop-holds c = (going-start _ _ _ _, omega arith)
 add-loop : tie.Need-add-loop Inv-loop μ-loop
 add-loop c = omega arith
 
-mul-clamp : tie.Need-mul-clamp Inv-loop μ-loop
-mul-clamp c = search needs
+end-at-requires : tie.Need-end-at-requires Inv-loop μ-loop
+end-at-requires c κs = (omega arith, omega (arith, c .before .loop .inv .0 .start))
 
-shared-slice-read-clamp : tie.Need-shared-slice-read-clamp Inv-loop μ-loop
-shared-slice-read-clamp c = omega arith
+add-end-at : tie.Need-add-end-at Inv-loop μ-loop
+add-end-at c = omega arith
 
-clamp-requires : tie.Need-clamp-requires Inv-loop μ-loop
-clamp-requires c κs = c .before .before .loop .inv .0 .start
-
-add-clamp : tie.Need-add-clamp Inv-loop μ-loop
-add-clamp c = omega arith
-
-mul-clamp-2 : tie.Need-mul-clamp-2 Inv-loop μ-loop
-mul-clamp-2 c = search needs
-
-shared-slice-read-clamp-2 : tie.Need-shared-slice-read-clamp-2 Inv-loop μ-loop
-shared-slice-read-clamp-2 c = omega arith
-
-clamp-requires-2 : tie.Need-clamp-requires-2 Inv-loop μ-loop
-clamp-requires-2 c κs = omega (arith, c .before .clamp .ensures, c .before .before .before .before .loop .inv .0 .start)
+end-at-requires-2 : tie.Need-end-at-requires-2 Inv-loop μ-loop
+end-at-requires-2 c κs = (omega arith, omega (arith, c .end-at .ensures, c .before .before .loop .inv .0 .start))
 
 check-one-requires : tie.Need-check-one-requires Inv-loop μ-loop
-check-one-requires c κs = omega (arith, c .before .before .before .before .before .before .before .before .before .before .before .before .loop .inv .0 .start, c .before .before .before .before .before .before .before .before .before .before .before .before .loop .inv .0 .pace, c .before .before .before .before .before .before .before .before .before .before .before .loop-test .taken, c .before .before .before .before .before .before .before .clamp2 .ensures, c .before .before .before .before .before .before .before .before .before .clamp .ensures, c .before .before .before .before .before .before .before .before .before .before .before .before .before .before .before .before .good)
+check-one-requires c κs = let second = c .before .before .before .before .before .before .before in let first = second .before in
+    let test = first .before in let loop = test .before in
+    omega (arith, second .end-at2 .ensures, first .end-at .ensures, test .loop-test .taken, loop .loop .inv .0 .start, loop .loop .inv .0 .pace, loop .before .before .before .before .good)
 
 add-i : tie.Need-add-i Inv-loop μ-loop
-add-i c = omega (arith, c .before .before .before .before .before .before .before .before .before .before .before .before .before .before .before .before .before .before .before .before .before .before .before .before .before .good .1 .0, c .before .before .before .before .before .before .before .before .before .before .before .before .before .before .before .before .before .before .before .before .loop-test .taken)
+add-i c =
+    let test = c .before .before .before .before .before .before .before .before .before .before .before .before .before .before .before .before .before .before in
+    omega (arith, test .loop-test .taken, test .before .before .before .before .before .good .1 .0)
 
 add-at : tie.Need-add-at Inv-loop μ-loop
-add-at c = omega (arith, c .before .before .before .before .before .before .before .before .before .before .before .before .before .before .before .before .before .before .before .before .before .before .before .before .before .good .1 .0, c .before .before .before .before .before .before .before .before .before .before .before .before .before .before .before .before .before .before .before .before .before .loop .inv .0 .pace, c .before .before .before .before .before .before .before .before .before .before .before .before .before .before .before .before .before .before .before .before .loop-test .taken)
+add-at c =
+    let test = c .before .before .before .before .before .before .before .before .before .before .before .before .before .before .before .before .before .before in
+    omega (arith, test .loop-test .taken, test .before .loop .inv .0 .pace, test .before .before .before .before .before .good .1 .0)
 
 loop-less : tie.Need-loop-less Inv-loop μ-loop
-loop-less c = omega (arith, c .before .before .before .before .before .before .before .before .before .before .before .before .before .before .before .before .before .before .before .before .loop-test .taken)
+loop-less c = omega (arith, c .before .before .before .before .before .before .before .before .before .before .before .before .before .before .before .before .before .before .loop-test .taken)
 
 loop-again : tie.Need-loop-again Inv-loop μ-loop
-loop-again c =
-    let l = c .before .before .before .before .before .before .before .before .before .before .before .before .before .before .before .before .before .before .before .before .before .loop in
-    let h = c .before .before .before .before .before .before .before .before .before .before .before .before .before .before .before .before .before .before .before .before .loop-test .taken in
-    (going-more _ _ (l .from) (l .i) (l .at) _ _ h (c .before .before .before .before .before .before .before .before .before .before .before .before .before .before .before .before .before .before .clamp .ensures) (c .before .before .before .before .before .before .before .before .before .before .before .before .before .before .before .before .clamp2 .ensures) (l .inv .0) (c .before .before .before .before .before .before .before .before .check-one .ensures), omega (arith, h))
+loop-again c = let checked = c .before .before .before .before .before .before .before .before in
+    let second = checked .before .before .before .before .before .before .before .before in let first = second .before in let test = first .before in
+    let l = test .before .loop in let h = test .loop-test .taken in
+    (going-more _ _ (l .from) (l .i) (l .at) _ _ h (first .end-at .ensures) (second .end-at2 .ensures) (l .inv .0) (checked .check-one .ensures), omega (arith, h))
 
 same-length : tie.Need-same-length Inv-loop μ-loop
 same-length c = ap (λ (n : Places). n .prefix) (going-lengths (c .before .loop .inv .0))
@@ -94,13 +87,9 @@ check-all-spec =
     μ-loop
     loop-holds
     add-loop
-    mul-clamp
-    shared-slice-read-clamp
-    clamp-requires
-    add-clamp
-    mul-clamp-2
-    shared-slice-read-clamp-2
-    clamp-requires-2
+    end-at-requires
+    add-end-at
+    end-at-requires-2
     check-one-requires
     add-i
     add-at

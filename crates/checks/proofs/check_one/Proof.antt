@@ -39,7 +39,8 @@ part-put-numbers-end : tie.Need-part-put-numbers-end
 part-put-numbers-end c = search needs
 
 put-numbers-requires : tie.Need-put-numbers-requires
-put-numbers-requires c κs = omega (arith, seven-long _ (c .before .before .before .numbers .ensures), c .before .before .before .before .before .before .before .before .before .before .before .before .before .before .before .before .before .before .before .before .before .pre)
+put-numbers-requires c κs = let numbered = c .before .before .before in
+    omega (arith, seven-long _ (numbered .numbers .ensures), numbered .before .before .before .before .before .before .before .before .before .before .before .before .before .before .before .before .before .before .pre)
 
 same-length : tie.Need-same-length
 same-length c = search needs
@@ -63,7 +64,10 @@ same-length-7 : tie.Need-same-length-7
 same-length-7 c = search needs
 
 returns : tie.Need-returns
-returns c = one (now (c .before .before .before .before .before .before .before .before .before .before .before .before .before .before .before .before .before .before .before .before .before .before .before .before .args .bytes)) (c .before .before .before .before .before .before .before .before .before .before .before .before .before .before .before .before .before .before .before .before .before .before .before .before .args .from) (c .before .before .before .before .before .before .before .before .before .before .before .before .before .before .before .before .before .before .before .before .before .before .before .before .args .middle) (c .before .before .before .before .before .before .before .before .before .before .before .before .before .before .before .before .before .before .before .before .before .before .before .before .args .to) (c .before .before .before .before .before .before .before .before .before .before .before .before .before .before .before .before .before .before .before .before .before .before .before .before .args .at) _ (c .before .before .before .before .before .before .before .before .before .before .before .before .before .check .ensures) (c .before .before .before .before .before .before .numbers .ensures) (c .before .before .put-numbers .ensures)
+returns c = let numbered = c .before .before .before .before .before .before in
+    let checked = numbered .before .before .before .before .before .before .before in
+    let a = checked .before .before .before .before .before .before .before .before .before .before .before .args in
+    one (now (a .bytes)) (a .from) (a .middle) (a .to) (a .at) _ (checked .check .ensures) (numbered .numbers .ensures) (c .before .before .put-numbers .ensures)
 
 pub check-one-spec : {M : Type 1} → statement M
 check-one-spec =

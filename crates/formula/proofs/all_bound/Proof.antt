@@ -9,10 +9,6 @@ use Rattle.formula.specs.Tables.{isBound}
 use Rattle.formula.proofs.TableLaws.{bound-end, code-within, bound-not, bound-more}
 use Rattle.formula.proofs.all_bound.Statement.{statement}
 use Rattle.formula.proofs.all_bound.Tie as tie
-use Rattle.formula.proofs.all_bound.Reads as reads
-use Rattle.formula.proofs.all_bound.Lts as lts
-use Rattle.cells.proofs.code.Reads as code-reads
-use Rattle.formula.proofs.word_of.Reads as word-of-reads
 
 abbrev Inv-loop : tie.InvT-loop
 Inv-loop prefix matrix from i₀ i = all (isBound prefix) (listAt matrix i) ≡ all (isBound prefix) (listAt matrix from)

@@ -1,8 +1,6 @@
 use Rattle.formula.proofs.LineKinds.{letter-p, letter-a, letter-e, letter-none}
 use Rattle.formula.proofs.by_letter.Statement.{statement}
 use Rattle.formula.proofs.by_letter.Tie as tie
-use Rattle.formula.proofs.by_letter.Reads as reads
-use Rattle.formula.proofs.by_letter.Lts as lts
 
 returns : tie.Need-returns
 returns c = letter-p _ _ (c .if1 .taken)

@@ -4,11 +4,6 @@ use borrow.Author.Tests.{not-true, not-false}
 use Rattle.formula.proofs.ClauseLaws.{clause-bad, clause-high, clause-full, clause-unbound, clause-many, clause-done}
 use Rattle.formula.proofs.clause_line.Statement.{statement}
 use Rattle.formula.proofs.clause_line.Tie as tie
-use Rattle.formula.proofs.clause_line.Reads as reads
-use Rattle.formula.proofs.clause_line.Lts as lts
-use Rattle.formula.proofs.all_bound.Reads as all-bound-reads
-use Rattle.lists.proofs.clause_at.Reads as clause-at-reads
-use Rattle.lists.proofs.store_list.Reads as store-list-reads
 
 clause-at-requires : tie.Need-clause-at-requires
 clause-at-requires c κs = search needs
@@ -41,13 +36,15 @@ same-length : tie.Need-same-length
 same-length c = search needs
 
 returns-4 : tie.Need-returns-4
-returns-4 c = clause-unbound _ _ _ _ (sym (c .before .before .before .before .before .before .before .before .before .before .before .clause-at .ensures) ∙ c .before .before .before .before .before .before .before .before .before .n .given .1) (c .before .before .before .before .before .before .before .if1 .left) (c .before .before .before .before .before .before .before .before .before .before .before .before .before .pre) (c .before .before .before .before .before .before .if2 .left) (c .before .before .before .before .store-list .ensures) (c .before .all-bound .ensures) (not-true _ (c .if3 .taken))
+returns-4 c = let s = c .before .before .before .before in let r = s .before .before in let t = r .before .before .before in
+    clause-unbound _ _ _ _ (sym (t .before .before .clause-at .ensures) ∙ t .n .given .1) (r .before .if1 .left) (t .before .before .before .before .pre) (r .if2 .left) (s .store-list .ensures) (c .before .all-bound .ensures) (not-true _ (c .if3 .taken))
 
 same-length-2 : tie.Need-same-length-2
 same-length-2 c = search needs
 
 returns-5 : tie.Need-returns-5
-returns-5 c = clause-many _ _ _ _ (sym (c .before .before .before .before .before .before .before .before .before .before .before .before .before .clause-at .ensures) ∙ c .before .before .before .before .before .before .before .before .before .before .before .n .given .1) (c .before .before .before .before .before .before .before .before .before .if1 .left) (c .before .before .before .before .before .before .before .before .before .before .before .before .before .before .before .pre) (c .before .before .before .before .before .before .before .before .if2 .left) (c .before .before .before .before .before .before .store-list .ensures) (c .before .before .before .all-bound .ensures) (not-false _ (c .before .before .if3 .left)) (c .if4 .taken)
+returns-5 c = let s = c .before .before in let r = s .before .before .before .before in let t = r .before .before .before .before .before in
+    clause-many _ _ _ _ (sym (t .before .before .clause-at .ensures) ∙ t .n .given .1) (r .before .before .before .if1 .left) (t .before .before .before .before .pre) (r .before .before .if2 .left) (r .store-list .ensures) (s .before .all-bound .ensures) (not-false _ (s .if3 .left)) (c .if4 .taken)
 
 add-clauses : tie.Need-add-clauses
 add-clauses c = search needs
@@ -62,7 +59,8 @@ same-length-3 : tie.Need-same-length-3
 same-length-3 c = search needs
 
 returns-6 : tie.Need-returns-6
-returns-6 c = clause-done _ _ _ _ (sym (c .before .before .before .before .before .before .before .before .before .before .before .before .before .before .clause-at .ensures) ∙ c .before .before .before .before .before .before .before .before .before .before .before .before .n .given .1) (c .before .before .before .before .before .before .before .before .before .before .if1 .left) (c .before .before .before .before .before .before .before .before .before .before .before .before .before .before .before .before .pre) (c .before .before .before .before .before .before .before .before .before .if2 .left) (c .before .before .before .before .before .before .before .store-list .ensures) (c .before .before .before .before .all-bound .ensures) (not-false _ (c .before .before .before .if3 .left)) (c .before .if4 .left)
+returns-6 c = let s = c .before .before .before in let r = s .before .before .before .before in let t = r .before .before .before .before .before in
+    clause-done _ _ _ _ (sym (t .before .before .clause-at .ensures) ∙ t .n .given .1) (r .before .before .before .if1 .left) (t .before .before .before .before .pre) (r .before .before .if2 .left) (r .store-list .ensures) (s .before .all-bound .ensures) (not-false _ (s .if3 .left)) (c .before .if4 .left)
 
 pub clause-line-spec : {M : Type 1} → statement M
 clause-line-spec =

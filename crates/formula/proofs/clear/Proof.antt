@@ -3,9 +3,6 @@ use Prim.Native.Nat.{_-_}
 use Rattle.formula.proofs.TableLaws.{Zeroing, zeroing-start, zeroing-more, zeroing-end}
 use Rattle.formula.proofs.clear.Statement.{statement}
 use Rattle.formula.proofs.clear.Tie as tie
-use Rattle.formula.proofs.clear.Reads as reads
-use Rattle.formula.proofs.clear.Lts as lts
-use Rattle.cells.proofs.put.Reads as put-reads
 
 abbrev Inv-loop : tie.InvT-loop
 Inv-loop t₀ n i₀ t i = Zeroing t₀ n t i

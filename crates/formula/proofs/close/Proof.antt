@@ -2,8 +2,6 @@ use borrow.Author.Needs.{needs}
 use Rattle.formula.proofs.FileLaws.{close-all, close-few, close-start}
 use Rattle.formula.proofs.close.Statement.{statement}
 use Rattle.formula.proofs.close.Tie as tie
-use Rattle.formula.proofs.close.Reads as reads
-use Rattle.formula.proofs.close.Lts as lts
 
 enum-known-s : tie.Need-enum-known-s
 enum-known-s c = search needs

@@ -3,10 +3,6 @@ use mathlib.Core.Path.{ap, sym, _∙_}
 use Rattle.formula.specs.Kinds.{kindOf}
 use Rattle.formula.proofs.kind_of.Statement.{statement}
 use Rattle.formula.proofs.kind_of.Tie as tie
-use Rattle.formula.proofs.kind_of.Reads as reads
-use Rattle.formula.proofs.kind_of.Lts as lts
-use Rattle.formula.proofs.by_letter.Reads as by-letter-reads
-use Rattle.lines.proofs.line_head.Reads as line-head-reads
 
 line-head-requires : tie.Need-line-head-requires
 line-head-requires c κs = search needs

@@ -3,10 +3,6 @@ use mathlib.Core.Path.{sym, _∙_}
 use Rattle.formula.proofs.OneLine.{first-skip, first-problem, first-binding, first-clause}
 use Rattle.formula.proofs.line_first.Statement.{statement}
 use Rattle.formula.proofs.line_first.Tie as tie
-use Rattle.formula.proofs.line_first.Reads as reads
-use Rattle.formula.proofs.line_first.Lts as lts
-use Rattle.formula.proofs.kind_of.Reads as kind-of-reads
-use Rattle.formula.proofs.problem_line.Reads as problem-line-reads
 
 kind-of-requires : tie.Need-kind-of-requires
 kind-of-requires c κs = search needs

@@ -4,11 +4,6 @@ use denote.Ref.{now}
 use Rattle.formula.proofs.OneLine.{within-skip, within-problem, within-binding, within-clause, quantifier-number}
 use Rattle.formula.proofs.line_within.Statement.{statement}
 use Rattle.formula.proofs.line_within.Tie as tie
-use Rattle.formula.proofs.line_within.Reads as reads
-use Rattle.formula.proofs.line_within.Lts as lts
-use Rattle.formula.proofs.binding_line.Reads as binding-line-reads
-use Rattle.formula.proofs.clause_line.Reads as clause-line-reads
-use Rattle.formula.proofs.kind_of.Reads as kind-of-reads
 
 kind-of-requires : tie.Need-kind-of-requires
 kind-of-requires c κs = search needs

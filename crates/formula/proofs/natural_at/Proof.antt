@@ -3,9 +3,6 @@ use mathlib.Core.Path.{sym, _∙_}
 use Rattle.formula.proofs.LineKinds.{natural-none, natural-even, natural-odd}
 use Rattle.formula.proofs.natural_at.Statement.{statement}
 use Rattle.formula.proofs.natural_at.Tie as tie
-use Rattle.formula.proofs.natural_at.Reads as reads
-use Rattle.formula.proofs.natural_at.Lts as lts
-use Rattle.lines.proofs.literal_at.Reads as literal-at-reads
 
 literal-at-requires : tie.Need-literal-at-requires
 literal-at-requires c κs = search needs

@@ -4,13 +4,6 @@ use borrow.Author.Tests.{not-true, not-false}
 use Rattle.formula.proofs.ProblemLaws.{problem-missed, problem-first, problem-second, problem-long, problem-high, problem-many, problem-full, problem-done}
 use Rattle.formula.proofs.problem_line.Statement.{statement}
 use Rattle.formula.proofs.problem_line.Tie as tie
-use Rattle.formula.proofs.problem_line.Reads as reads
-use Rattle.formula.proofs.problem_line.Lts as lts
-use Rattle.formula.proofs.clear.Reads as clear-reads
-use Rattle.formula.proofs.natural_at.Reads as natural-at-reads
-use Rattle.formula.proofs.wide.Reads as wide-reads
-use Rattle.lines.proofs.ended.Reads as ended-reads
-use Rattle.lines.proofs.word_is.Reads as word-is-reads
 
 slice-aggregate-word-is : tie.Need-slice-aggregate-word-is
 slice-aggregate-word-is c = search needs
@@ -49,25 +42,30 @@ enum-told-3 : tie.Need-enum-told-3
 enum-told-3 c = search needs
 
 returns-3 : tie.Need-returns-3
-returns-3 c = λ m. problem-second _ _ _ m (sym (c .before .before .before .before .before .before .before .before .before .before .word-is .ensures) ∙ c .before .before .before .before .before .before .before .before .e .given .1) (sym (c .before .before .before .before .before .before .natural-at .ensures) ∙ c .before .before .before .before .v .given .1) (sym (c .before .before .natural-at2 .ensures) ∙ c .enum-told3 .given .1)
+returns-3 c = let s = c .before .before in let r = s .before .before .before .before in
+    λ m. problem-second _ _ _ m (sym (r .before .before .before .before .word-is .ensures) ∙ r .before .before .e .given .1) (sym (r .natural-at .ensures) ∙ s .before .before .v .given .1) (sym (s .natural-at2 .ensures) ∙ c .enum-told3 .given .1)
 
 ended-requires : tie.Need-ended-requires
 ended-requires c κs = search needs
 
 returns-4 : tie.Need-returns-4
-returns-4 c = λ m. problem-long _ _ _ m (sym (c .before .before .before .before .before .before .before .before .before .before .before .before .before .word-is .ensures) ∙ c .before .before .before .before .before .before .before .before .before .before .before .e .given .1) (sym (c .before .before .before .before .before .before .before .before .before .natural-at .ensures) ∙ c .before .before .before .before .before .before .before .v .given .1) (sym (c .before .before .before .before .before .natural-at2 .ensures) ∙ c .before .before .before .c .given .1) (c .before .ended .ensures) (not-true _ (c .if1 .taken))
+returns-4 c = let s = c .before .before .before .before .before in let r = s .before .before .before .before in
+    λ m. problem-long _ _ _ m (sym (r .before .before .before .before .word-is .ensures) ∙ r .before .before .e .given .1) (sym (r .natural-at .ensures) ∙ s .before .before .v .given .1) (sym (s .natural-at2 .ensures) ∙ c .before .before .before .c .given .1) (c .before .ended .ensures) (not-true _ (c .if1 .taken))
 
 returns-5 : tie.Need-returns-5
-returns-5 c = λ m. problem-high _ _ _ m (sym (c .before .before .before .before .before .before .before .before .before .before .before .before .before .before .word-is .ensures) ∙ c .before .before .before .before .before .before .before .before .before .before .before .before .e .given .1) (sym (c .before .before .before .before .before .before .before .before .before .before .natural-at .ensures) ∙ c .before .before .before .before .before .before .before .before .v .given .1) (sym (c .before .before .before .before .before .before .natural-at2 .ensures) ∙ c .before .before .before .before .c .given .1) (c .before .before .ended .ensures) (not-false _ (c .before .if1 .left)) (c .if2 .taken)
+returns-5 c = let s = c .before .before in let r = s .before .before .before .before in let t = r .before .before .before .before in
+    λ m. problem-high _ _ _ m (sym (t .before .before .before .before .word-is .ensures) ∙ t .before .before .e .given .1) (sym (t .natural-at .ensures) ∙ r .before .before .v .given .1) (sym (r .natural-at2 .ensures) ∙ s .before .before .c .given .1) (s .ended .ensures) (not-false _ (c .before .if1 .left)) (c .if2 .taken)
 
 returns-6 : tie.Need-returns-6
-returns-6 c = λ m. problem-many _ _ _ m (sym (c .before .before .before .before .before .before .before .before .before .before .before .before .before .before .before .word-is .ensures) ∙ c .before .before .before .before .before .before .before .before .before .before .before .before .before .e .given .1) (sym (c .before .before .before .before .before .before .before .before .before .before .before .natural-at .ensures) ∙ c .before .before .before .before .before .before .before .before .before .v .given .1) (sym (c .before .before .before .before .before .before .before .natural-at2 .ensures) ∙ c .before .before .before .before .before .c .given .1) (c .before .before .before .ended .ensures) (not-false _ (c .before .before .if1 .left)) (c .before .if2 .left) (c .if3 .taken)
+returns-6 c = let s = c .before .before in let r = s .before .before .before .before .before in let t = r .before .before .before .before in
+    λ m. problem-many _ _ _ m (sym (t .before .before .before .before .word-is .ensures) ∙ t .before .before .e .given .1) (sym (t .natural-at .ensures) ∙ r .before .before .v .given .1) (sym (r .natural-at2 .ensures) ∙ s .before .before .before .c .given .1) (s .before .ended .ensures) (not-false _ (s .if1 .left)) (c .before .if2 .left) (c .if3 .taken)
 
 wide-requires : tie.Need-wide-requires
 wide-requires c κs = search needs
 
 returns-7 : tie.Need-returns-7
-returns-7 c = λ m. problem-full _ _ _ m (sym (c .before .before .before .before .before .before .before .before .before .before .before .before .before .before .before .before .before .word-is .ensures) ∙ c .before .before .before .before .before .before .before .before .before .before .before .before .before .before .before .e .given .1) (sym (c .before .before .before .before .before .before .before .before .before .before .before .before .before .natural-at .ensures) ∙ c .before .before .before .before .before .before .before .before .before .before .before .v .given .1) (sym (c .before .before .before .before .before .before .before .before .before .natural-at2 .ensures) ∙ c .before .before .before .before .before .before .before .c .given .1) (c .before .before .before .before .before .ended .ensures) (not-false _ (c .before .before .before .before .if1 .left)) (c .before .before .before .if2 .left) (c .before .before .if3 .left) (c .before .wide .ensures) (c .if4 .taken)
+returns-7 c = let s = c .before .before .before in let r = s .before .before .before .before in let t = r .before .before .before .before in
+    λ m. problem-full _ _ _ m (sym (t .before .before .before .before .before .before .word-is .ensures) ∙ t .before .before .before .before .e .given .1) (sym (t .before .before .natural-at .ensures) ∙ t .v .given .1) (sym (r .before .before .natural-at2 .ensures) ∙ r .c .given .1) (s .before .before .ended .ensures) (not-false _ (s .before .if1 .left)) (s .if2 .left) (c .before .before .if3 .left) (c .before .wide .ensures .0) (c .if4 .taken)
 
 clear-requires : tie.Need-clear-requires
 clear-requires c κs = search needs
@@ -76,7 +74,9 @@ same-length : tie.Need-same-length
 same-length c = search needs
 
 returns-8 : tie.Need-returns-8
-returns-8 c = λ m. problem-done _ _ _ m (sym (c .before .before .before .before .before .before .before .before .before .before .before .before .before .before .before .before .before .before .before .before .word-is .ensures) ∙ c .before .before .before .before .before .before .before .before .before .before .before .before .before .before .before .before .before .before .e .given .1) (sym (c .before .before .before .before .before .before .before .before .before .before .before .before .before .before .before .before .natural-at .ensures) ∙ c .before .before .before .before .before .before .before .before .before .before .before .before .before .before .v .given .1) (sym (c .before .before .before .before .before .before .before .before .before .before .before .before .natural-at2 .ensures) ∙ c .before .before .before .before .before .before .before .before .before .before .c .given .1) (c .before .before .before .before .before .before .before .before .ended .ensures) (not-false _ (c .before .before .before .before .before .before .before .if1 .left)) (c .before .before .before .before .before .before .if2 .left) (c .before .before .before .before .before .if3 .left) (c .before .before .before .before .wide .ensures) (c .before .before .before .if4 .left) (c .before .clear .ensures)
+returns-8 c = let s = c .before .before .before in let r = s .before .before .before .before in
+    let t = r .before .before .before .before .before .before .before in
+    λ m. problem-done _ _ _ m (sym (t .before .before .before .before .before .before .word-is .ensures) ∙ t .before .before .before .before .e .given .1) (sym (t .before .before .natural-at .ensures) ∙ t .v .given .1) (sym (r .before .before .before .before .before .natural-at2 .ensures) ∙ r .before .before .before .c .given .1) (r .before .ended .ensures) (not-false _ (r .if1 .left)) (s .before .before .before .if2 .left) (s .before .before .if3 .left) (s .before .wide .ensures .0) (s .if4 .left) (c .before .clear .ensures)
 
 pub problem-line-spec : {M : Type 1} → statement M
 problem-line-spec =

@@ -2,9 +2,6 @@ use borrow.Author.Needs.{needs}
 use Rattle.formula.proofs.FileLaws.{overlong, read-whole}
 use Rattle.formula.proofs.read_formula.Statement.{statement}
 use Rattle.formula.proofs.read_formula.Tie as tie
-use Rattle.formula.proofs.read_formula.Reads as reads
-use Rattle.formula.proofs.read_formula.Lts as lts
-use Rattle.formula.proofs.read_lines.Reads as read-lines-reads
 
 returns : tie.Need-returns
 returns c = overlong _ _ _ (c .if1 .taken)

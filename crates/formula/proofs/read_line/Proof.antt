@@ -3,10 +3,6 @@ use denote.Ref.{now}
 use Rattle.formula.proofs.OneLine.{read-in, able-in}
 use Rattle.formula.proofs.read_line.Statement.{statement}
 use Rattle.formula.proofs.read_line.Tie as tie
-use Rattle.formula.proofs.read_line.Reads as reads
-use Rattle.formula.proofs.read_line.Lts as lts
-use Rattle.formula.proofs.line_first.Reads as line-first-reads
-use Rattle.formula.proofs.line_within.Reads as line-within-reads
 
 enum-told : tie.Need-enum-told
 enum-told c = search needs

@@ -6,11 +6,6 @@ use lib.ListN.{length}
 use Rattle.formula.proofs.FileLaws.{Going, going-start, going-long, line-ends, going-able, going-refused, going-next, going-last}
 use Rattle.formula.proofs.read_lines.Statement.{statement}
 use Rattle.formula.proofs.read_lines.Tie as tie
-use Rattle.formula.proofs.read_lines.Reads as reads
-use Rattle.formula.proofs.read_lines.Lts as lts
-use Rattle.formula.proofs.close.Reads as close-reads
-use Rattle.formula.proofs.read_line.Reads as read-line-reads
-use Rattle.lines.proofs.past.Reads as past-reads
 
 abbrev Inv-loop : tie.InvT-loop
 Inv-loop formula prefix₀ matrix₀ s₀ at₀ n₀ prefix matrix s at n = Going formula prefix₀ matrix₀ prefix matrix s at n
@@ -19,7 +14,7 @@ abbrev μ-loop : tie.MeasureT-loop
 μ-loop formula prefix₀ matrix₀ s₀ at₀ n₀ prefix matrix s at n = length formula - at
 
 loop-holds : tie.Need-loop-holds Inv-loop μ-loop
-loop-holds c = going-start _ _ _
+loop-holds c = going-start
 
 past-requires : tie.Need-past-requires Inv-loop μ-loop
 past-requires c κs = search needs
@@ -31,10 +26,11 @@ part-read-line-start : tie.Need-part-read-line-start Inv-loop μ-loop
 part-read-line-start c = omega (arith, c .past .ensures)
 
 part-read-line-end : tie.Need-part-read-line-end Inv-loop μ-loop
-part-read-line-end c = line-ends _ _ _ (c .before .loop .prefix) (c .before .loop .matrix) (c .before .loop .s) (c .before .loop .at) (c .before .loop .n) (c .before .loop .inv) (c .past .ensures)
+part-read-line-end c = let l = c .before .loop in line-ends (l .inv) (c .past .ensures)
 
 read-line-requires : tie.Need-read-line-requires Inv-loop μ-loop
-read-line-requires c κs = going-able _ _ _ (c .before .before .before .before .loop .prefix) (c .before .before .before .before .loop .matrix) (c .before .before .before .before .loop .s) (c .before .before .before .before .loop .at) (c .before .before .before .before .loop .n) (c .before .before .before .before .loop .inv) (c .before .before .before .past .ensures) (c .before .before .before .before .before .before .pre)
+read-line-requires c κs = let r = c .before .before .before .before in
+    going-able (r .loop .inv) (c .before .before .before .past .ensures) (r .before .before .pre)
 
 enum-known-t : tie.Need-enum-known-t Inv-loop μ-loop
 enum-known-t c = search needs
@@ -43,37 +39,46 @@ enum-known-k : tie.Need-enum-known-k Inv-loop μ-loop
 enum-known-k c = search needs
 
 same-length : tie.Need-same-length Inv-loop μ-loop
-same-length c = c .before .before .before .before .before .read-line .kept .1 .1 .0 ∙ going-long _ _ _ (c .before .before .before .before .before .before .before .before .before .before .loop .prefix) (c .before .before .before .before .before .before .before .before .before .before .loop .matrix) (c .before .before .before .before .before .before .before .before .before .before .loop .s) (c .before .before .before .before .before .before .before .before .before .before .loop .at) (c .before .before .before .before .before .before .before .before .before .before .loop .n) (c .before .before .before .before .before .before .before .before .before .before .loop .inv) .0
+same-length c = let r = c .before .before .before .before .before in let l = r .before .before .before .before .before .loop in
+    r .read-line .kept .1 .1 .0 ∙ going-long (l .inv) .0
 
 same-length-2 : tie.Need-same-length-2 Inv-loop μ-loop
-same-length-2 c = c .before .before .before .before .before .read-line .kept .1 .1 .1 .0 ∙ going-long _ _ _ (c .before .before .before .before .before .before .before .before .before .before .loop .prefix) (c .before .before .before .before .before .before .before .before .before .before .loop .matrix) (c .before .before .before .before .before .before .before .before .before .before .loop .s) (c .before .before .before .before .before .before .before .before .before .before .loop .at) (c .before .before .before .before .before .before .before .before .before .before .loop .n) (c .before .before .before .before .before .before .before .before .before .before .loop .inv) .1
+same-length-2 c = let r = c .before .before .before .before .before in let l = r .before .before .before .before .before .loop in
+    r .read-line .kept .1 .1 .1 .0 ∙ going-long (l .inv) .1
 
 returns : tie.Need-returns Inv-loop μ-loop
-returns c = going-refused _ _ _ (c .before .before .before .before .before .before .before .before .before .before .loop .prefix) (c .before .before .before .before .before .before .before .before .before .before .loop .matrix) (c .before .before .before .before .before .before .before .before .before .before .loop .s) (c .before .before .before .before .before .before .before .before .before .before .loop .at) (c .before .before .before .before .before .before .before .before .before .before .loop .n) (c .before .before .before .before .before .before .before .before .before .before .loop .inv) (c .before .before .before .before .before .before .before .before .before .past .ensures) (c .before .before .before .before .before .read-line .ensures) (c .before .k .given .1)
+returns c = let r = c .before .before .before .before .before in let t = r .before .before .before .before in let l = t .before .loop in
+    going-refused (l .inv) (t .past .ensures) (r .read-line .ensures) (c .before .k .given .1)
 
 close-requires : tie.Need-close-requires Inv-loop μ-loop
 close-requires c κs = search needs
 
 same-length-3 : tie.Need-same-length-3 Inv-loop μ-loop
-same-length-3 c = c .before .before .before .before .before .before .before .read-line .kept .1 .1 .0 ∙ going-long _ _ _ (c .before .before .before .before .before .before .before .before .before .before .before .before .loop .prefix) (c .before .before .before .before .before .before .before .before .before .before .before .before .loop .matrix) (c .before .before .before .before .before .before .before .before .before .before .before .before .loop .s) (c .before .before .before .before .before .before .before .before .before .before .before .before .loop .at) (c .before .before .before .before .before .before .before .before .before .before .before .before .loop .n) (c .before .before .before .before .before .before .before .before .before .before .before .before .loop .inv) .0
+same-length-3 c = let r = c .before .before .before .before .before .before .before in let l = r .before .before .before .before .before .loop in
+    r .read-line .kept .1 .1 .0 ∙ going-long (l .inv) .0
 
 same-length-4 : tie.Need-same-length-4 Inv-loop μ-loop
-same-length-4 c = c .before .before .before .before .before .before .before .read-line .kept .1 .1 .1 .0 ∙ going-long _ _ _ (c .before .before .before .before .before .before .before .before .before .before .before .before .loop .prefix) (c .before .before .before .before .before .before .before .before .before .before .before .before .loop .matrix) (c .before .before .before .before .before .before .before .before .before .before .before .before .loop .s) (c .before .before .before .before .before .before .before .before .before .before .before .before .loop .at) (c .before .before .before .before .before .before .before .before .before .before .before .before .loop .n) (c .before .before .before .before .before .before .before .before .before .before .before .before .loop .inv) .1
+same-length-4 c = let r = c .before .before .before .before .before .before .before in let l = r .before .before .before .before .before .loop in
+    r .read-line .kept .1 .1 .1 .0 ∙ going-long (l .inv) .1
 
 returns-2 : tie.Need-returns-2 Inv-loop μ-loop
-returns-2 c = going-last _ _ _ (c .before .before .before .before .before .before .before .before .before .before .before .before .loop .prefix) (c .before .before .before .before .before .before .before .before .before .before .before .before .loop .matrix) (c .before .before .before .before .before .before .before .before .before .before .before .before .loop .s) (c .before .before .before .before .before .before .before .before .before .before .before .before .loop .at) (c .before .before .before .before .before .before .before .before .before .before .before .before .loop .n) (c .before .before .before .before .before .before .before .before .before .before .before .before .loop .inv) (c .before .before .before .before .before .before .before .before .before .before .before .past .ensures) (c .before .before .before .before .before .before .before .read-line .ensures) (c .before .before .before .t .given .1) (c .before .if1 .taken) (c .close .ensures)
+returns-2 c = let r = c .before .before .before .before .before .before .before in let q = r .before .before .before .before in
+    let l = q .before .loop in
+    going-last (l .inv) (q .past .ensures) (r .read-line .ensures) (c .before .before .before .t .given .1) (c .before .if1 .taken) (c .close .ensures)
 
 add-at : tie.Need-add-at Inv-loop μ-loop
 add-at c = omega (arith, c .if1 .left, c .before .before .before .before .before .before .before .before .before .before .before .before .before .good)
 
 add-n : tie.Need-add-n Inv-loop μ-loop
-add-n c = omega (arith, c .before .before .before .before .before .before .before .before .before .before .before .loop .inv .count, c .before .before .before .before .before .before .before .before .before .before .before .loop .inv .within, c .before .before .before .before .before .before .before .before .before .before .before .before .before .pre)
+add-n c = let s = c .before .before .before .before .before .before .before .before .before .before .before in
+    omega (arith, s .loop .inv .count, s .loop .inv .within, s .before .before .pre)
 
 loop-less : tie.Need-loop-less Inv-loop μ-loop
 loop-less c = omega (arith, c .if1 .left, c .before .before .before .before .before .before .before .before .before .before .past .ensures)
 
 loop-again : tie.Need-loop-again Inv-loop μ-loop
-loop-again c = going-next _ _ _ (c .before .before .before .before .before .before .before .before .before .before .before .loop .prefix) (c .before .before .before .before .before .before .before .before .before .before .before .loop .matrix) (c .before .before .before .before .before .before .before .before .before .before .before .loop .s) (c .before .before .before .before .before .before .before .before .before .before .before .loop .at) (c .before .before .before .before .before .before .before .before .before .before .before .loop .n) (c .before .before .before .before .before .before .before .before .before .before .before .loop .inv) (c .before .before .before .before .before .before .before .before .before .before .past .ensures) (c .before .before .before .before .before .before .read-line .ensures) (c .before .before .t .given .1) (c .if1 .left)
+loop-again c = let r = c .before .before .before .before .before .before in let q = r .before .before .before .before in let l = q .before .loop in
+    going-next (l .inv) (q .past .ensures) (r .read-line .ensures) (c .before .before .t .given .1) (c .if1 .left)
 
 pub read-lines-spec : {M : Type 1} → statement M
 read-lines-spec =

@@ -11,7 +11,7 @@ word-requires : tie.Need-word-requires
 word-requires c κs = search needs
 
 returns : tie.Need-returns
-returns c = c .word .ensures ∙ ap (entry _) (c .before .wide .ensures)
+returns c = c .word .ensures ∙ ap (entry _) (c .before .wide .ensures .0)
 
 pub word-of-spec : {M : Type 1} → statement M
 word-of-spec = tie.close (tie.spec wide-requires word-requires returns)

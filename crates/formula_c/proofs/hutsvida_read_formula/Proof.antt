@@ -1,28 +1,19 @@
 use borrow.Author.Needs.{needs}
 use Rattle.formula_c.proofs.hutsvida_read_formula.Statement.{statement}
 use Rattle.formula_c.proofs.hutsvida_read_formula.Tie as tie
-use Rattle.formula_c.proofs.hutsvida_read_formula.Reads as reads
-use Rattle.formula_c.proofs.hutsvida_read_formula.Lts as lts
-use Rattle.formula.proofs.read_formula.Reads as read-formula-reads
-use Rattle.formula_c.proofs.pack.Reads as pack-reads
 
--- src/lib.rt:20:10
 read-formula-requires : tie.Need-read-formula-requires
 read-formula-requires c κs = search needs
 
--- src/lib.rt:20:5
 pack-requires : tie.Need-pack-requires
 pack-requires c κs = search needs
 
--- src/lib.rt:16:1
 same-length : tie.Need-same-length
 same-length c = search needs
 
--- src/lib.rt:16:1
 same-length-2 : tie.Need-same-length-2
 same-length-2 c = search needs
 
--- src/lib.rt:16:1
 returns : tie.Need-returns
 returns c = record { answer = c .before .before .before .read-formula .result; number = c .pack .ensures; answered = c .before .before .before .read-formula .ensures }
 

@@ -41,8 +41,7 @@ is-a-requires : tie.Need-is-a-requires Inv-loop μ-loop
 is-a-requires c κs = search needs
 
 returns-4 : tie.Need-returns-4 Inv-loop μ-loop
-returns-4 c =
-    let l = c .before .before .before .before in
+returns-4 c = let l = c .before .before .before .before in
     on-stop _ (l .loop .i) (l .loop .v) (c .before .before .before .loop-test .taken) (sym (c .before .is-a .ensures) ∙ not-true _ (c .if4 .taken)) ∙ l .loop .inv .1
 
 with-digit-requires : tie.Need-with-digit-requires Inv-loop μ-loop
@@ -55,8 +54,7 @@ loop-less : tie.Need-loop-less Inv-loop μ-loop
 loop-less c = search needs
 
 loop-again : tie.Need-loop-again Inv-loop μ-loop
-loop-again c =
-    let l = c .before .before .before .before .before in
+loop-again c = let l = c .before .before .before .before .before in
     (omega (arith, c .with-digit .ensures), sym (on-go _ (l .loop .i) (l .loop .v) (c .before .before .before .before .loop-test .taken) (sym (c .before .before .is-a .ensures) ∙ not-false _ (c .before .if4 .left)) (c .with-digit .ensures)) ∙ l .loop .inv .1)
 
 returns-5 : tie.Need-returns-5 Inv-loop μ-loop

@@ -29,34 +29,29 @@ enum-known-v : tie.Need-enum-known-v
 enum-known-v c = search needs
 
 mul-t15 : tie.Need-mul-t15
-mul-t15 c =
-    let k = c .before .before .before .before .before in
+mul-t15 c = let k = c .before .before .before .before .before in
     let h = value-capped _ _ (k .before .before .past .ensures) (k .past2 .ensures) (c .before .before .before .number-of .ensures) (c .before .v .given .1) in omega arith
 
 enum-known-v-2 : tie.Need-enum-known-v-2
 enum-known-v-2 c = search needs
 
 mul-t16 : tie.Need-mul-t16
-mul-t16 c =
-    let k = c .before .before .before .before .before in
+mul-t16 c = let k = c .before .before .before .before .before in
     let h = minus-capped _ _ (k .before .before .past .ensures) (k .past2 .ensures) (c .before .before .before .number-of .ensures) (c .before .v2 .given .1) in omega arith
 
 add-t17 : tie.Need-add-t17
-add-t17 c =
-    let k = c .before .before .before .before .before in
+add-t17 c = let k = c .before .before .before .before .before in
     let h = minus-capped _ _ (k .before .before .past .ensures) (k .past2 .ensures) (c .before .before .before .number-of .ensures) (c .before .v2 .given .1) in omega arith
 
 enum-told : tie.Need-enum-told
 enum-told c = search needs
 
 returns-2 : tie.Need-returns-2
-returns-2 c =
-    let k = c .before .before .before .before .before in
+returns-2 c = let k = c .before .before .before .before .before in
     literal-value _ _ (k .before .before .past .ensures) (k .past2 .ensures) (c .before .before .before .number-of .ensures) (c .before .v .given .1)
 
 returns-3 : tie.Need-returns-3
-returns-3 c =
-    let k = c .before .before .before .before .before in
+returns-3 c = let k = c .before .before .before .before .before in
     literal-minus _ _ (k .before .before .past .ensures) (k .past2 .ensures) (c .before .before .before .number-of .ensures) (c .before .v2 .given .1)
 
 returns-4 : tie.Need-returns-4

@@ -34,20 +34,17 @@ enum-told-2 : tie.Need-enum-told-2
 enum-told-2 c = search needs
 
 returns-4 : tie.Need-returns-4
-returns-4 c =
-    let k = c .before .before .before in
+returns-4 c = let k = c .before .before .before in
     number-sign _ (k .before .before .before .before .before .digits-from .ensures) (k .before .before .before .enum-told .given .1) (k .if2 .left) (k .before .before .if1 .left)
     (c .before .before .digits-from2 .ensures) (c .enum-told2 .given .1)
 
 returns-5 : tie.Need-returns-5
-returns-5 c =
-    let k = c .before .before .before .before .before in
+returns-5 c = let k = c .before .before .before .before .before in
     number-minus-zero _ (k .before .before .before .before .before .digits-from .ensures) (k .before .before .before .enum-told .given .1) (k .if2 .left) (k .before .before .if1 .left)
     (c .before .before .before .before .digits-from2 .ensures) (c .before .before .v2 .given .1) (c .if3 .taken)
 
 returns-6 : tie.Need-returns-6
-returns-6 c =
-    let k = c .before .before .before .before .before in
+returns-6 c = let k = c .before .before .before .before .before in
     number-minus _ (k .before .before .before .before .before .digits-from .ensures) (k .before .before .before .enum-told .given .1) (k .if2 .left) (k .before .before .if1 .left)
     (c .before .before .before .before .digits-from2 .ensures) (c .before .before .v2 .given .1) (c .if3 .left)
 

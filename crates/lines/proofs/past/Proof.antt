@@ -26,8 +26,7 @@ belongs-requires : tie.Need-belongs-requires Inv-loop μ-loop
 belongs-requires c κs = search needs
 
 returns : tie.Need-returns Inv-loop μ-loop
-returns c =
-    let k = c .before .before .before .before in
+returns c = let k = c .before .before .before .before in
     sym (k .loop .inv ∙ ap (λ n. k .loop .i + n) (run-stop _ _ (k .loop .i) (c .before .before .before .loop-test .taken) (sym (c .before .belongs .ensures) ∙ not-true _ (c .if1 .taken))) ∙ omega arith)
 
 add-i : tie.Need-add-i Inv-loop μ-loop
@@ -37,8 +36,7 @@ loop-less : tie.Need-loop-less Inv-loop μ-loop
 loop-less c = search needs
 
 loop-again : tie.Need-loop-again Inv-loop μ-loop
-loop-again c =
-    let k = c .before .before .before .before in
+loop-again c = let k = c .before .before .before .before in
     k .loop .inv ∙ ap (λ n. k .loop .i + n) (run-go _ _ (k .loop .i) (c .before .before .before .loop-test .taken) (sym (c .before .belongs .ensures) ∙ not-false _ (c .if1 .left))) ∙ omega arith
 
 returns-2 : tie.Need-returns-2 Inv-loop μ-loop

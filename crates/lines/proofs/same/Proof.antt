@@ -27,7 +27,8 @@ shared-slice-read-if2-2 : tie.Need-shared-slice-read-if2-2 Inv-loop μ-loop
 shared-slice-read-if2-2 c = search needs
 
 returns-2 : tie.Need-returns-2 Inv-loop μ-loop
-returns-2 c = same-differ _ _ (c .before .before .before .before .before .loop .i) (c .before .before .before .before .loop-test .taken) (c .before .before .before .if1 .left) (c .if2 .taken) ∙ c .before .before .before .before .before .loop .inv
+returns-2 c = let s = c .before .before .before in
+    same-differ _ _ (s .before .before .loop .i) (s .before .loop-test .taken) (s .if1 .left) (c .if2 .taken) ∙ s .before .before .loop .inv
 
 add-i : tie.Need-add-i Inv-loop μ-loop
 add-i c = search needs
@@ -36,7 +37,8 @@ loop-less : tie.Need-loop-less Inv-loop μ-loop
 loop-less c = search needs
 
 loop-again : tie.Need-loop-again Inv-loop μ-loop
-loop-again c = same-go _ _ (c .before .before .before .before .before .loop .i) (c .before .before .before .before .loop-test .taken) (c .before .before .before .if1 .left) (c .if2 .left) ∙ c .before .before .before .before .before .loop .inv
+loop-again c = let s = c .before .before .before in
+    same-go _ _ (s .before .before .loop .i) (s .before .loop-test .taken) (s .if1 .left) (c .if2 .left) ∙ s .before .before .loop .inv
 
 returns-3 : tie.Need-returns-3 Inv-loop μ-loop
 returns-3 c = same-end _ _ (c .before .loop .i) (c .loop-test .left) ∙ c .before .loop .inv

@@ -3,10 +3,6 @@ use mathlib.Core.Path.{sym, _∙_}
 use Rattle.lists.proofs.FormLaws.{lost-line, good-line, long-line}
 use Rattle.lists.proofs.clause_at.Statement.{statement}
 use Rattle.lists.proofs.clause_at.Tie as tie
-use Rattle.lists.proofs.clause_at.Reads as reads
-use Rattle.lists.proofs.clause_at.Lts as lts
-use Rattle.lines.proofs.ended.Reads as ended-reads
-use Rattle.lists.proofs.list_at.Reads as list-at-reads
 
 list-at-requires : tie.Need-list-at-requires
 list-at-requires c κs = search needs

@@ -3,10 +3,6 @@ use mathlib.Core.Path.{sym, _∙_}
 use Rattle.lists.proofs.FormLaws.{no-mapping, lost-1, signed-1, lost-2, signed-2, lost-3, unequal, equal, lists}
 use Rattle.lists.proofs.mapping_at.Statement.{statement}
 use Rattle.lists.proofs.mapping_at.Tie as tie
-use Rattle.lists.proofs.mapping_at.Reads as reads
-use Rattle.lists.proofs.mapping_at.Lts as lts
-use Rattle.lists.proofs.clause_at.Reads as clause-at-reads
-use Rattle.lists.proofs.list_at.Reads as list-at-reads
 
 list-at-requires : tie.Need-list-at-requires
 list-at-requires c κs = search needs
@@ -36,7 +32,8 @@ returns-3 : tie.Need-returns-3
 returns-3 c = no-mapping _ _ (lost-2 _ _ (sym (c .before .before .before .before .before .before .before .list-at .ensures) ∙ c .before .before .before .before .before .s .given .1) (c .before .before .before .if1 .left) (sym (c .before .before .list-at2 .ensures) ∙ c .enum-told2 .given .1))
 
 returns-4 : tie.Need-returns-4
-returns-4 c = no-mapping _ _ (signed-2 _ _ (sym (c .before .before .before .before .before .before .before .before .before .list-at .ensures) ∙ c .before .before .before .before .before .before .before .s .given .1) (c .before .before .before .before .before .if1 .left) (sym (c .before .before .before .before .list-at2 .ensures) ∙ c .before .before .t .given .1) (c .if2 .taken))
+returns-4 c = let r = c .before .before .before .before in
+    no-mapping _ _ (signed-2 _ _ (sym (r .before .before .before .before .before .list-at .ensures) ∙ r .before .before .before .s .given .1) (r .before .if1 .left) (sym (r .list-at2 .ensures) ∙ c .before .before .t .given .1) (c .if2 .taken))
 
 clause-at-requires : tie.Need-clause-at-requires
 clause-at-requires c κs = search needs
@@ -48,13 +45,16 @@ enum-told-3 : tie.Need-enum-told-3
 enum-told-3 c = search needs
 
 returns-5 : tie.Need-returns-5
-returns-5 c = no-mapping _ _ (lost-3 _ _ (sym (c .before .before .before .before .before .before .before .before .before .before .before .before .list-at .ensures) ∙ c .before .before .before .before .before .before .before .before .before .before .s .given .1) (c .before .before .before .before .before .before .before .before .if1 .left) (sym (c .before .before .before .before .before .before .before .list-at2 .ensures) ∙ c .before .before .before .before .before .t .given .1) (c .before .before .before .if2 .left) (sym (c .before .before .clause-at .ensures) ∙ c .enum-told3 .given .1))
+returns-5 c = let r = c .before .before in let q = r .before .before .before .before .before in
+    no-mapping _ _ (lost-3 _ _ (sym (q .before .before .before .before .before .list-at .ensures) ∙ q .before .before .before .s .given .1) (q .before .if1 .left) (sym (q .list-at2 .ensures) ∙ r .before .before .before .t .given .1) (r .before .if2 .left) (sym (r .clause-at .ensures) ∙ c .enum-told3 .given .1))
 
 returns-6 : tie.Need-returns-6
-returns-6 c = no-mapping _ _ (unequal _ _ (sym (c .before .before .before .before .before .before .before .before .before .before .before .before .before .before .list-at .ensures) ∙ c .before .before .before .before .before .before .before .before .before .before .before .before .s .given .1) (c .before .before .before .before .before .before .before .before .before .before .if1 .left) (sym (c .before .before .before .before .before .before .before .before .before .list-at2 .ensures) ∙ c .before .before .before .before .before .before .before .t .given .1) (c .before .before .before .before .before .if2 .left) (sym (c .before .before .before .before .clause-at .ensures) ∙ c .before .before .m .given .1) (c .if3 .taken))
+returns-6 c = let r = c .before .before .before .before in let q = r .before .before .before .before .before in
+    no-mapping _ _ (unequal _ _ (sym (q .before .before .before .before .before .list-at .ensures) ∙ q .before .before .before .s .given .1) (q .before .if1 .left) (sym (q .list-at2 .ensures) ∙ r .before .before .before .t .given .1) (r .before .if2 .left) (sym (r .clause-at .ensures) ∙ c .before .before .m .given .1) (c .if3 .taken))
 
 returns-7 : tie.Need-returns-7
-returns-7 c = lists _ _ (equal _ _ (sym (c .before .before .before .before .before .before .before .before .before .before .before .before .before .before .list-at .ensures) ∙ c .before .before .before .before .before .before .before .before .before .before .before .before .s .given .1) (c .before .before .before .before .before .before .before .before .before .before .if1 .left) (sym (c .before .before .before .before .before .before .before .before .before .list-at2 .ensures) ∙ c .before .before .before .before .before .before .before .t .given .1) (c .before .before .before .before .before .if2 .left) (sym (c .before .before .before .before .clause-at .ensures) ∙ c .before .before .m .given .1) (c .if3 .left))
+returns-7 c = let r = c .before .before .before .before in let q = r .before .before .before .before .before in
+    lists _ _ (equal _ _ (sym (q .before .before .before .before .before .list-at .ensures) ∙ q .before .before .before .s .given .1) (q .before .if1 .left) (sym (q .list-at2 .ensures) ∙ r .before .before .before .t .given .1) (r .before .if2 .left) (sym (r .clause-at .ensures) ∙ c .before .before .m .given .1) (c .if3 .left))
 
 pub mapping-at-spec : {M : Type 1} → statement M
 mapping-at-spec =

@@ -6,10 +6,6 @@ use lib.ListN.{length}
 use Rattle.lists.proofs.StoreLaws.{Storing, storing-start, storing-full, storing-lost, storing-end, storing-more}
 use Rattle.lists.proofs.store_list.Statement.{statement}
 use Rattle.lists.proofs.store_list.Tie as tie
-use Rattle.lists.proofs.store_list.Reads as reads
-use Rattle.lists.proofs.store_list.Lts as lts
-use Rattle.cells.proofs.put.Reads as put-reads
-use Rattle.lines.proofs.literal_at.Reads as literal-at-reads
 
 abbrev Inv-loop : tie.InvT-loop
 Inv-loop line at table₀ from i₀ k₀ table i k = Storing line at table₀ from i k table
@@ -18,7 +14,7 @@ abbrev μ-loop : tie.MeasureT-loop
 μ-loop line at table₀ from i₀ k₀ table i k = length table - k
 
 loop-holds : tie.Need-loop-holds Inv-loop μ-loop
-loop-holds c = storing-start _ _ _ _
+loop-holds c = storing-start
 
 literal-at-requires : tie.Need-literal-at-requires Inv-loop μ-loop
 literal-at-requires c κs = search needs
@@ -33,7 +29,8 @@ same-length : tie.Need-same-length Inv-loop μ-loop
 same-length c = c .before .before .before .before .loop .inv .long
 
 returns : tie.Need-returns Inv-loop μ-loop
-returns c = storing-lost _ _ _ _ (c .before .before .before .before .loop .i) (c .before .before .before .before .loop .k) (c .before .before .before .before .loop .table) (c .before .before .before .before .loop .inv) (sym (c .before .before .literal-at .ensures) ∙ c .enum-told .given .1)
+returns c = let l = c .before .before .before .before .loop in
+    storing-lost (l .inv) (sym (c .before .before .literal-at .ensures) ∙ c .enum-told .given .1)
 
 put-requires : tie.Need-put-requires Inv-loop μ-loop
 put-requires c κs = search needs
@@ -42,7 +39,8 @@ same-length-2 : tie.Need-same-length-2 Inv-loop μ-loop
 same-length-2 c = c .before .before .put .kept .0 ∙ c .before .before .before .before .before .before .before .before .before .loop .inv .long
 
 returns-2 : tie.Need-returns-2 Inv-loop μ-loop
-returns-2 c = storing-end _ _ _ _ (c .before .before .before .before .before .before .before .before .before .loop .i) (c .before .before .before .before .before .before .before .before .before .loop .k) (c .before .before .before .before .before .before .before .before .before .loop .table) (c .before .before .before .before .before .before .before .before .before .loop .inv) (sym (c .before .before .before .before .before .before .before .literal-at .ensures) ∙ c .before .before .before .before .before .x .given .1) (c .before .before .put .ensures) (c .if1 .taken)
+returns-2 c = let s = c .before .before .before .before .before in let l = s .before .before .before .before .loop in
+    storing-end (l .inv) (sym (s .before .before .literal-at .ensures) ∙ s .x .given .1) (c .before .before .put .ensures) (c .if1 .taken)
 
 add-k : tie.Need-add-k Inv-loop μ-loop
 add-k c = omega (arith, c .before .before .before .before .before .before .before .before .loop-test, c .before .before .before .before .before .before .before .before .before .before .before .good)
@@ -51,13 +49,14 @@ loop-less : tie.Need-loop-less Inv-loop μ-loop
 loop-less c = omega (arith, c .before .before .put .kept .0, c .before .before .before .before .before .before .before .before .loop-test)
 
 loop-again : tie.Need-loop-again Inv-loop μ-loop
-loop-again c = storing-more _ _ _ _ (c .before .before .before .before .before .before .before .before .before .loop .i) (c .before .before .before .before .before .before .before .before .before .loop .k) (c .before .before .before .before .before .before .before .before .before .loop .table) (c .before .before .before .before .before .before .before .before .before .loop .inv) (sym (c .before .before .before .before .before .before .before .literal-at .ensures) ∙ c .before .before .before .before .before .x .given .1) (c .before .before .put .ensures) (c .if1 .left)
+loop-again c = let s = c .before .before .before .before .before in let l = s .before .before .before .before .loop in
+    storing-more (l .inv) (sym (s .before .before .literal-at .ensures) ∙ s .x .given .1) (c .before .before .put .ensures) (c .if1 .left)
 
 same-length-3 : tie.Need-same-length-3 Inv-loop μ-loop
 same-length-3 c = c .before .loop .inv .long
 
 returns-3 : tie.Need-returns-3 Inv-loop μ-loop
-returns-3 c = storing-full _ _ _ _ (c .before .loop .i) (c .before .loop .k) (c .before .loop .table) (c .before .loop .inv) (c .loop-test .left)
+returns-3 c = storing-full (c .before .loop .inv) (c .loop-test .left)
 
 pub store-list-spec : {M : Type 1} → statement M
 store-list-spec =

@@ -15,7 +15,8 @@ same-length : tie.Need-same-length
 same-length c = search needs
 
 returns : tie.Need-returns
-returns c = (written-then (c .before .before .before .before .before .before .put-byte .ensures) (c .before .before .put-decimal .ensures), omega (arith, c .before .before .put-decimal .ensures .next, c .before .before .before .before .before .before .put-byte .ensures .next, numeral-short _ (c .before .before .before .before .before .before .before .before .before .fits .n .fits)))
+returns c = let s = c .before .before in let r = s .before .before .before .before in
+    (written-then (r .put-byte .ensures) (s .put-decimal .ensures), omega (arith, s .put-decimal .ensures .next, r .put-byte .ensures .next, numeral-short _ (r .before .before .before .fits .n .fits)))
 
 pub put-field-spec : {M : Type 1} → statement M
 put-field-spec = tie.close (tie.spec put-byte-requires put-decimal-requires same-length returns)

@@ -20,13 +20,11 @@ part-put-fields-end : tie.Need-part-put-fields-end
 part-put-fields-end c = search needs
 
 put-fields-requires : tie.Need-put-fields-requires
-put-fields-requires c κs =
-    let w = c .before .before .before .before .before .put-word .ensures in
+put-fields-requires c κs = let w = c .before .before .before .before .before .put-word .ensures in
     omega (arith, w .next, w .same, word-short (c .before .before .before .before .before .before .before .before .before .args .r .verdict), six-long _ (c .before .before .before .before .before .before .before .numbers .ensures))
 
 put-byte-requires : tie.Need-put-byte-requires
-put-byte-requires c κs =
-    let w = c .before .before .before .before .before .before .before .before .before .put-word .ensures in
+put-byte-requires c κs = let w = c .before .before .before .before .before .before .before .before .before .put-word .ensures in
     let k = c .before .before .before .put-fields .ensures in
     omega (arith, w .next, w .same, k .0 .same, k .1, word-short (c .before .before .before .before .before .before .before .before .before .before .before .before .before .args .r .verdict), six-long _ (c .before .before .before .before .before .before .before .before .before .before .before .numbers .ensures))
 

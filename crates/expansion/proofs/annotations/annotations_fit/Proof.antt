@@ -1,24 +1,36 @@
-use borrow.Author.Needs.{needs}
-use Rattle.expansion.specs.Codes.{rightmost, agreed}
-use Rattle.expansion.proofs.Arms.{notes-none, notes-some}
+use Rattle.expansion.specs.Marks.{listed}
+use Rattle.expansion.proofs.HeldLaws.{holds-none, held-few}
+use Rattle.expansion.proofs.Arms.{notes-no, notes-yes}
 use Rattle.expansion.proofs.annotations.annotations_fit.Statement.{statement}
 use Rattle.expansion.proofs.annotations.annotations_fit.Tie as tie
 
-code-requires : tie.Need-code-requires
-code-requires c κs = search needs
+join-negations-requires : tie.Need-join-negations-requires
+join-negations-requires c κs = holds-none
+
+join-annotations-requires : tie.Need-join-annotations-requires
+join-annotations-requires c κs = c .before .before .join-negations .ensures .held
+
+one-signed-requires : tie.Need-one-signed-requires
+one-signed-requires c κs = c .before .before .join-annotations .ensures .held
+
+copies-fit-requires : tie.Need-copies-fit-requires
+copies-fit-requires c κs = held-few _ _ _ (c .before .before .before .before .before .join-annotations .ensures .held)
 
 returns : tie.Need-returns
-returns c = notes-none _ _ _ _ _ _ (c .before .code .ensures .0) (c .if1 .taken)
-
-rightmost-requires : tie.Need-rightmost-requires
-rightmost-requires c κs = search needs
-
-agreed-requires : tie.Need-agreed-requires
-agreed-requires c κs = search needs
+unfolding listed
+returns c = notes-yes _ _ _ _ _ (c .before .before .before .before .before .before .before .before .before .join-negations .ensures .codes) (c .before .before .before .before .before .before .join-annotations .ensures .codes) (c .before .before .before .one-signed .ensures) (c .before .before .if1 .taken) (c .copies-fit .ensures)
 
 returns-2 : tie.Need-returns-2
-returns-2 c = notes-some _ _ _ _ _ _ (c .before .before .before .code .ensures .0) (c .before .before .if1 .left) (c .before .rightmost .ensures) (c .agreed .ensures)
+unfolding listed
+returns-2 c = notes-no _ _ _ _ _ (c .before .before .before .before .before .before .before .join-negations .ensures .codes) (c .before .before .before .before .join-annotations .ensures .codes) (c .before .one-signed .ensures) (c .if1 .left)
 
 pub annotations-fit-spec : {M : Type 1} → statement M
 annotations-fit-spec =
-    tie.close (tie.spec code-requires returns rightmost-requires agreed-requires returns-2)
+    tie.close
+    (tie.spec
+    join-negations-requires
+    join-annotations-requires
+    one-signed-requires
+    copies-fit-requires
+    returns
+    returns-2)

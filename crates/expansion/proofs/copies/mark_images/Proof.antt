@@ -39,7 +39,8 @@ loop-less : tie.Need-loop-less Inv-loop μ-loop
 loop-less c = let h = inside _ _ (c .before .before .before .before .code .ensures .0) (c .before .before .before .if1 .left) in omega arith
 
 loop-again : tie.Need-loop-again Inv-loop μ-loop
-loop-again c = ap (marks (imagesOf (standsOf (c .before .before .before .before .before .before .args .values .now) (c .before .before .before .before .before .before .args .map .now)) (listAt (c .before .before .before .before .before .before .args .proof .now) (c .before .before .before .before .before .loop .i + 1)))) (c .mark-one .ensures ∙ ap (stamp (c .before .before .before .before .before .loop .seen)) (c .before .image .ensures)) ∙ sym (images-next _ _ _ (c .before .before .before .before .code .ensures .0) _ (c .before .before .before .if1 .left)) ∙ c .before .before .before .before .before .loop .inv
+loop-again c = let s = c .before .before .before in let r = s .before .before in let a = r .before .args in
+    ap (marks (imagesOf (standsOf (a .values .now) (a .map .now)) (listAt (a .proof .now) (r .loop .i + 1)))) (c .mark-one .ensures ∙ ap (stamp (r .loop .seen)) (c .before .image .ensures)) ∙ sym (images-next _ _ _ (s .before .code .ensures .0) _ (s .if1 .left)) ∙ r .loop .inv
 
 pub mark-images-spec : {M : Type 1} → statement M
 mark-images-spec =

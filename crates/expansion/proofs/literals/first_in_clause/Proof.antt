@@ -23,7 +23,8 @@ has-requires : tie.Need-has-requires
 has-requires c κs = search needs
 
 returns-2 : tie.Need-returns-2
-returns-2 c = first-some _ _ _ _ _ (c .before .before .before .before .before .before .code .ensures .0) (c .before .before .before .before .before .if1 .left) (clause-yes _ _ _ _ (c .before .before .before .before .stands .ensures .0) (sym (c .before .before .before .existential .ensures) ∙ c .before .before .if2 .taken) (c .before .image .ensures) (c .has .ensures))
+returns-2 c = let s = c .before .before .before in
+    first-some _ _ _ _ _ (s .before .before .before .code .ensures .0) (s .before .before .if1 .left) (clause-yes _ _ _ _ (s .before .stands .ensures .0) (sym (s .existential .ensures) ∙ c .before .before .if2 .taken) (c .before .image .ensures) (c .has .ensures))
 
 returns-3 : tie.Need-returns-3
 returns-3 c = first-some _ _ _ _ _ (c .before .before .before .before .code .ensures .0) (c .before .before .before .if1 .left) (clause-no _ _ _ _ (c .before .before .stands .ensures .0) (sym (c .before .existential .ensures) ∙ c .if2 .left))

@@ -35,7 +35,8 @@ loop-less : tie.Need-loop-less Inv-loop μ-loop
 loop-less c = let h = inside _ _ (c .before .before .before .code .ensures .0) (c .before .before .if1 .left) in omega arith
 
 loop-again : tie.Need-loop-again Inv-loop μ-loop
-loop-again c = ap (marks (listAt (c .before .before .before .before .before .args .t .now) (c .before .before .before .before .loop .i + 1))) (c .mark-one .ensures) ∙ sym (marks-next _ _ _ (c .before .before .before .code .ensures .0) (c .before .before .if1 .left)) ∙ c .before .before .before .before .loop .inv
+loop-again c = let s = c .before .before .before in
+    ap (marks (listAt (s .before .before .args .t .now) (s .before .loop .i + 1))) (c .mark-one .ensures) ∙ sym (marks-next _ _ _ (s .code .ensures .0) (c .before .before .if1 .left)) ∙ s .before .loop .inv
 
 pub mark-spec : {M : Type 1} → statement M
 mark-spec =

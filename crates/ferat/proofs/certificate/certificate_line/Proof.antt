@@ -1,141 +1,113 @@
-use mathlib.Core.Path.{refl}
-use Rattle.ferat.proofs.LineLaws.{line-skipped, line-mapping, line-hints, line-expansion, line-deletion, line-addition}
+use Rattle.tables.specs.Tables.{Tables, six}
+use Rattle.steps.specs.Shown.{Work, four}
+use Rattle.rules.specs.Forms.{mappingForm, hintsForm, clauseForm, expansion, addition, deletion}
+use Rattle.ferat.proofs.LineLaws.{means, line-skipped, line-formed}
 use borrow.Author.Needs.{needs}
 use Rattle.ferat.proofs.certificate.certificate_line.Statement.{statement}
 use Rattle.ferat.proofs.certificate.certificate_line.Tie as tie
-use Rattle.ferat.proofs.certificate.certificate_line.Reads as reads
-use Rattle.ferat.proofs.certificate.certificate_line.Lts as lts
-use Rattle.ferat.proofs.adding.addition_line.Reads as addition-line-reads
-use Rattle.ferat.proofs.certificate.carried.Reads as carried-reads
-use Rattle.ferat.proofs.certificate.expanded.Reads as expanded-reads
-use Rattle.ferat.proofs.deleting.deletion_line.Reads as deletion-line-reads
-use Rattle.ferat.proofs.hints.hints_line.Reads as hints-line-reads
-use Rattle.ferat.proofs.kinds.kind_of.Reads as kind-of-reads
-use Rattle.ferat.proofs.mapping.mapping_line.Reads as mapping-line-reads
 
--- src/certificate.rt:68:11
+-- the tables and the working memory before the line
+abbrev lent : tie.Start → Tables
+lent c = let a = c .args in six (a .prefix) (a .matrix) (a .map) (a .proof) (a .marks) (a .values)
+
+abbrev held : tie.Start → Work
+held c = let a = c .args in four (a .starts) (a .noted) (a .falses) (a .trail)
+
 kind-of-requires : tie.Need-kind-of-requires
 kind-of-requires c κs = search needs
 
--- src/certificate.rt:69:23
 enum-told : tie.Need-enum-told
 enum-told c = search needs
 
--- src/certificate.rt:70:23
 enum-known-e : tie.Need-enum-known-e
 enum-known-e c = search needs
 
--- src/certificate.rt:70:37
 mapping-line-requires : tie.Need-mapping-line-requires
 mapping-line-requires c κs = search needs
 
--- src/certificate.rt:70:29
-carried-requires : tie.Need-carried-requires
-carried-requires c κs = search needs
-
--- src/certificate.rt:71:21
 enum-known-e-2 : tie.Need-enum-known-e-2
 enum-known-e-2 c = search needs
 
--- src/certificate.rt:71:35
 hints-line-requires : tie.Need-hints-line-requires
 hints-line-requires c κs = search needs
 
--- src/certificate.rt:71:27
-carried-requires-2 : tie.Need-carried-requires-2
-carried-requires-2 c κs = search needs
-
--- src/certificate.rt:72:25
 enum-known-e-3 : tie.Need-enum-known-e-3
 enum-known-e-3 c = search needs
 
--- src/certificate.rt:72:31
-expanded-requires : tie.Need-expanded-requires
-expanded-requires c κs = search needs
+expansion-line-requires : tie.Need-expansion-line-requires
+expansion-line-requires c κs = search needs
 
--- src/certificate.rt:73:24
 enum-known-e-4 : tie.Need-enum-known-e-4
 enum-known-e-4 c = search needs
 
--- src/certificate.rt:73:30
 deletion-line-requires : tie.Need-deletion-line-requires
-deletion-line-requires c κs = (c .before .before .before .before .before .before .before .before .before .pre .0, c .before .before .before .before .before .before .before .before .before .pre .1 .2 .filled, c .before .before .before .before .before .before .before .before .before .pre .2)
+deletion-line-requires c κs = search needs
 
--- src/certificate.rt:74:57
 enum-told-2 : tie.Need-enum-told-2
 enum-told-2 c = search needs
 
--- src/certificate.rt:74:27
 addition-line-requires : tie.Need-addition-line-requires
-addition-line-requires c κs = (c .before .before .before .before .before .before .before .before .before .before .before .pre .0, c .before .before .before .before .before .before .before .before .before .before .before .pre .1 .2 .filled, c .before .before .before .before .before .before .before .before .before .before .before .pre .2)
+addition-line-requires c κs = search needs
 
--- src/certificate.rt:64:1
 returns : tie.Need-returns
-returns c = line-skipped _ _ _ _ (c .before .before .kind-of .ensures) (c .enum-told .given .1) (c .before .before .before .before .args .units) (c .before .before .before .before .pre .2)
+returns c = let a = c .before .before .before .before in
+    line-skipped (λ f s. means _ (c .before .before .kind-of .ensures) (lent a) f s (c .enum-told .given .1))
 
--- src/certificate.rt:64:1
 same-length : tie.Need-same-length
-same-length c = c .before .before .before .mapping-line .kept .1 .1 .1 .1 .0
+same-length c = search needs
 
--- src/certificate.rt:64:1
 same-length-2 : tie.Need-same-length-2
-same-length-2 c = c .before .before .before .mapping-line .kept .1 .1 .1 .1 .1 .0
+same-length-2 c = search needs
 
--- src/certificate.rt:64:1
 returns-2 : tie.Need-returns-2
-returns-2 c = line-mapping _ _ _ _ (c .before .before .before .before .before .before .before .before .before .kind-of .ensures) (c .before .before .before .before .before .before .before .e .given .1) _ _ (c .before .before .before .mapping-line .ensures) (c .before .before .before .before .before .before .before .before .before .before .before .args .units) (c .carried .ensures) (c .before .before .before .before .before .before .before .before .before .before .before .pre .1) (c .before .before .before .before .before .before .before .before .before .before .before .pre .2)
+returns-2 c = let r = c .before .before .before .before .before .before .before in let a = r .before .before .before .before in
+    line-formed mappingForm _ (λ f s. means _ (r .before .before .kind-of .ensures) _ f s (r .e .given .1)) (c .before .before .mapping-line .ensures (lent a) (held a))
 
--- src/certificate.rt:64:1
 same-length-3 : tie.Need-same-length-3
-same-length-3 c = c .before .before .hints-line .kept .1 .1 .1 .0
+same-length-3 c = search needs
 
--- src/certificate.rt:64:1
 returns-3 : tie.Need-returns-3
-returns-3 c = line-hints _ _ _ _ (c .before .before .before .before .before .before .before .kind-of .ensures) (c .before .before .before .before .before .e2 .given .1) _ (c .before .before .hints-line .ensures) (c .before .before .before .before .before .before .before .before .before .args .units) (c .carried2 .ensures) (c .before .before .before .before .before .before .before .before .before .pre .1) (c .before .before .before .before .before .before .before .before .before .pre .2)
+returns-3 c = let r = c .before .before .before .before in let a = r .before .before .before .before in
+    line-formed hintsForm _ (λ f s. means _ (r .before .before .kind-of .ensures) _ f s (r .e2 .given .1)) (c .before .hints-line .ensures (lent a) (held a))
 
--- src/certificate.rt:64:1
 same-length-4 : tie.Need-same-length-4
-same-length-4 c = refl
+same-length-4 c = search needs
 
--- src/certificate.rt:64:1
 same-length-5 : tie.Need-same-length-5
-same-length-5 c = c .before .before .expanded .kept .1 .1 .1 .1 .1 .1 .1 .0
+same-length-5 c = search needs
 
--- src/certificate.rt:64:1
 same-length-6 : tie.Need-same-length-6
-same-length-6 c = c .before .before .expanded .kept .1 .1 .1 .1 .1 .1 .1 .1 .0
+same-length-6 c = search needs
 
--- src/certificate.rt:64:1
 same-length-7 : tie.Need-same-length-7
-same-length-7 c = refl
+same-length-7 c = search needs
 
--- src/certificate.rt:64:1
 returns-4 : tie.Need-returns-4
-returns-4 c = line-expansion _ _ _ _ (c .before .before .before .before .before .before .before .before .before .before .before .before .before .before .before .kind-of .ensures) (c .before .before .before .before .before .before .before .before .before .before .before .before .before .e3 .given .1) (c .before .before .expanded .ensures)
+returns-4 c = let r = c .before .before .before .before .before .before .before .before .before .before .before .before in
+    line-formed (clauseForm expansion) _ (λ f s. means _ (r .before .before .kind-of .ensures) _ f s (r .e3 .given .1)) (c .before .before .expansion-line .ensures)
 
--- src/certificate.rt:64:1
 same-length-8 : tie.Need-same-length-8
-same-length-8 c = refl
+same-length-8 c = search needs
 
--- src/certificate.rt:64:1
 same-length-9 : tie.Need-same-length-9
-same-length-9 c = c .before .deletion-line .kept .1 .1 .1 .1 .1 .0
+same-length-9 c = search needs
 
--- src/certificate.rt:64:1
 returns-5 : tie.Need-returns-5
-returns-5 c = line-deletion _ _ _ _ (c .before .before .before .before .before .before .before .before .before .kind-of .ensures) (c .before .before .before .before .before .before .before .e4 .given .1) (c .before .deletion-line .ensures)
+returns-5 c = let r = c .before .before .before .before .before .before .before in let a = r .before .before .before .before in
+    line-formed (clauseForm deletion) _ (λ f s. means _ (r .before .before .kind-of .ensures) _ f s (r .e4 .given .1)) (c .before .deletion-line .ensures (lent a) (held a))
 
--- src/certificate.rt:64:1
 same-length-10 : tie.Need-same-length-10
-same-length-10 c = c .before .before .addition-line .kept .1 .1 .1 .0
+same-length-10 c = search needs
 
--- src/certificate.rt:64:1
 same-length-11 : tie.Need-same-length-11
-same-length-11 c = c .before .before .addition-line .kept .1 .1 .1 .1 .0
+same-length-11 c = search needs
 
--- src/certificate.rt:64:1
+same-length-12 : tie.Need-same-length-12
+same-length-12 c = search needs
+
 returns-6 : tie.Need-returns-6
-returns-6 c = line-addition _ _ _ _ (c .before .before .before .before .before .before .before .before .before .before .before .before .kind-of .ensures) (c .before .before .before .before .before .before .before .before .before .before .enum-told2 .given .1) refl (c .before .before .addition-line .ensures)
+returns-6 c = let r = c .before .before .before .before .before .before .before .before .before in let a = r .before .before .before .before in
+    line-formed (clauseForm addition) 0 (λ f s. means _ (r .before .before .kind-of .ensures) _ f s (r .enum-told2 .given .1)) (c .before .before .addition-line .ensures (lent a) (held a))
 
 pub certificate-line-spec : {M : Type 1} → statement M
 certificate-line-spec =
@@ -145,12 +117,10 @@ certificate-line-spec =
     enum-told
     enum-known-e
     mapping-line-requires
-    carried-requires
     enum-known-e-2
     hints-line-requires
-    carried-requires-2
     enum-known-e-3
-    expanded-requires
+    expansion-line-requires
     enum-known-e-4
     deletion-line-requires
     enum-told-2
@@ -171,4 +141,5 @@ certificate-line-spec =
     returns-5
     same-length-10
     same-length-11
+    same-length-12
     returns-6)

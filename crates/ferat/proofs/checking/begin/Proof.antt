@@ -1,12 +1,14 @@
-use mathlib.Core.Path.{refl}
+use mathlib.Core.Path.{ap}
+use Rattle.ferat.specs.Check.{begunWith}
+use borrow.Author.Needs.{needs}
 use Rattle.ferat.proofs.checking.begin.Statement.{statement}
 use Rattle.ferat.proofs.checking.begin.Tie as tie
-use Rattle.ferat.proofs.checking.begin.Reads as reads
-use Rattle.ferat.proofs.checking.begin.Lts as lts
+
+above-requires : tie.Need-above-requires
+above-requires c κs = search needs
 
 returns : tie.Need-returns
-returns c = refl
+returns c = ap (begunWith _) (c .above .ensures)
 
 pub begin-spec : {M : Type 1} → statement M
-begin-spec =
-    tie.close (tie.spec returns)
+begin-spec = tie.close (tie.spec above-requires returns)

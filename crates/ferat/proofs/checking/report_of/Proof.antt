@@ -3,22 +3,16 @@ use Rattle.ferat.specs.Check.{reportOf}
 use borrow.Author.Needs.{needs}
 use Rattle.ferat.proofs.checking.report_of.Statement.{statement}
 use Rattle.ferat.proofs.checking.report_of.Tie as tie
-use Rattle.ferat.proofs.checking.report_of.Reads as reads
-use Rattle.ferat.proofs.checking.report_of.Lts as lts
 
--- src/checking.rt:56:23
 enum-known-e : tie.Need-enum-known-e
 enum-known-e c = search needs
 
--- src/checking.rt:57:24
 enum-known-e-2 : tie.Need-enum-known-e-2
 enum-known-e-2 c = search needs
 
--- src/checking.rt:52:1
 returns : tie.Need-returns
 returns c = ap reportOf (sym (c .before .e .given .1))
 
--- src/checking.rt:52:1
 returns-2 : tie.Need-returns-2
 returns-2 c = ap reportOf (sym (c .before .e2 .given .1))
 

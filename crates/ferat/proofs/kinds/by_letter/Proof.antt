@@ -1,26 +1,19 @@
 use Rattle.ferat.proofs.KindLaws.{letter-x, letter-o, letter-e, letter-d, letter-none}
 use Rattle.ferat.proofs.kinds.by_letter.Statement.{statement}
 use Rattle.ferat.proofs.kinds.by_letter.Tie as tie
-use Rattle.ferat.proofs.kinds.by_letter.Reads as reads
-use Rattle.ferat.proofs.kinds.by_letter.Lts as lts
 
--- src/kinds.rt:21:9
 returns : tie.Need-returns
 returns c = letter-x _ _ (c .if1 .taken)
 
--- src/kinds.rt:24:9
 returns-2 : tie.Need-returns-2
 returns-2 c = letter-o _ _ (c .before .if1 .left) (c .if2 .taken)
 
--- src/kinds.rt:27:9
 returns-3 : tie.Need-returns-3
 returns-3 c = letter-e _ _ (c .before .before .if1 .left) (c .before .if2 .left) (c .if3 .taken)
 
--- src/kinds.rt:30:9
 returns-4 : tie.Need-returns-4
 returns-4 c = letter-d _ _ (c .before .before .before .if1 .left) (c .before .before .if2 .left) (c .before .if3 .left) (c .if4 .taken)
 
--- src/kinds.rt:17:1
 returns-5 : tie.Need-returns-5
 returns-5 c = letter-none _ _ (c .before .before .before .if1 .left) (c .before .before .if2 .left) (c .before .if3 .left) (c .if4 .left)
 

@@ -3,40 +3,28 @@ use Rattle.ferat.specs.Kinds.{kindOf}
 use borrow.Author.Needs.{needs}
 use Rattle.ferat.proofs.kinds.kind_of.Statement.{statement}
 use Rattle.ferat.proofs.kinds.kind_of.Tie as tie
-use Rattle.ferat.proofs.kinds.kind_of.Reads as reads
-use Rattle.ferat.proofs.kinds.kind_of.Lts as lts
-use Rattle.ferat.proofs.kinds.by_letter.Reads as by-letter-reads
-use Rattle.lines.proofs.line_head.Reads as line-head-reads
 
--- src/kinds.rt:38:11
 line-head-requires : tie.Need-line-head-requires
 line-head-requires c κs = search needs
 
--- src/kinds.rt:39:26
 enum-told : tie.Need-enum-told
 enum-told c = search needs
 
--- src/kinds.rt:40:22
 enum-known-b : tie.Need-enum-known-b
 enum-known-b c = search needs
 
--- src/kinds.rt:40:31
 by-letter-requires : tie.Need-by-letter-requires
 by-letter-requires c κs = search needs
 
--- src/kinds.rt:41:24
 enum-told-2 : tie.Need-enum-told-2
 enum-told-2 c = search needs
 
--- src/kinds.rt:35:1
 returns : tie.Need-returns
 returns c = ap kindOf (sym (sym (c .before .before .line-head .ensures) ∙ c .enum-told .given .1))
 
--- src/kinds.rt:35:1
 returns-2 : tie.Need-returns-2
 returns-2 c = c .by-letter .ensures ∙ ap kindOf (sym (sym (c .before .before .before .before .line-head .ensures) ∙ c .before .before .b .given .1))
 
--- src/kinds.rt:35:1
 returns-3 : tie.Need-returns-3
 returns-3 c = ap kindOf (sym (sym (c .before .before .line-head .ensures) ∙ c .enum-told2 .given .1))
 

@@ -1,0 +1,4 @@
+-- Laws of crate clauses.
+pub mod CursorLaws
+pub mod StandingLaws
+pub mod StoreLaws

@@ -1,0 +1,2 @@
+-- What the contracts of crate clauses say.
+pub mod Standing

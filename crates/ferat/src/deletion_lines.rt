@@ -1,0 +1,57 @@
+// The deletion line.
+ghost use Rattle.rules.specs.Forms.{clauseForm, deletion};
+ghost use Rattle.tables.specs.Tables.{Tables};
+ghost use Rattle.steps.specs.Shown.{Work};
+ghost use Rattle.steps.specs.Judges.{among, beside};
+ghost use Rattle.redundancy.specs.Deletions.{Listed};
+ghost use Rattle.ferat.specs.Lines.{Line, LineListed};
+use lines::Literal;
+use lists::Clause;
+use propagation::trail::Falses;
+use propagation::trail::Trail;
+use steps::Progress;
+use steps::Step;
+
+// Puts the line's literals from a place on onto the empty trail, each once; the trail's length.
+fn list_line(line: &[u8], at: usize, falses: &mut Falses, trail: &mut Trail) -> usize
+    ensures { λ r. ⌜ (Listed (now (falses .entry)) (now (trail .entry)) 0
+        → LineListed (now (line .entry)) at (now (falses .exit)) (now (trail .exit)) r) ⌝ }
+{
+    let mut i = at;
+    let mut n: usize = 0;
+    loop {
+        let Literal::Of(x, e) = lines::literal_at(line, i) else {
+            return n;
+        };
+        if x == 0 {
+            return n;
+        }
+        n = redundancy::deletion::list_literal(falses, trail, n, x % 65536);
+        i = e;
+    }
+}
+
+// `d` literals `0`. Its literals are written into no table: they are listed on the trail, which is emptied first.
+pub fn deletion_line(
+    line: &[u8],
+    at: usize,
+    p: Progress,
+    proof: &[i32],
+    marks: &mut [i32],
+    falses: &mut Falses,
+    trail: &mut Trail,
+) -> Step
+    ensures { λ r. ⌜ ((t : Tables) (w : Work) → Line (clauseForm deletion) (now (line .entry)) at p
+        (among t (proof .entry) (marks .entry)) (beside w (falses .entry) (trail .entry)) r
+        (among t (proof .entry) (marks .exit)) (beside w (falses .exit) (trail .exit))) ⌝ }
+{
+    let Clause::Good(_, _, m) = lists::clause_at(line, at) else {
+        return Step::Refuse(2);
+    };
+    if 16384 < m {
+        return Step::Refuse(3);
+    }
+    propagation::trail::undo(falses, trail, p.units.n, 0);
+    let n = list_line(line, at, falses, trail);
+    steps::delete(p, n, proof, marks, falses, trail)
+}

@@ -1,0 +1,24 @@
+-- The marks of the copies: place p holds 0 if copy p is not mapped. Assumes nothing.
+use mathlib.Core.Bool.{Bool, true, false, not, _&&_, cond}
+use mathlib.Core.List.{List, [], _∷_}
+use Prim.Native.Nat.{ℕ}
+use lib.Dec.{eqb, leb}
+use lib.ListN.{getD, set}
+
+unfoldable pub isNoted : List ℕ → ℕ → Bool
+isNoted ns p = leb p 16384 && not (eqb (getD ns p 0) 0)
+
+unfoldable pub isFree : List ℕ → ℕ → Bool
+isFree ns p = leb p 16384 && eqb (getD ns p 0) 0
+
+-- COPIES NOTED one after the other, up to the first that is not free: whether all were, and the marks then
+pub record Marking : Type 0 where
+  pub fresh : Bool
+  pub marks : List ℕ
+
+abbrev pub marking : Bool → List ℕ → Marking
+marking b ns = record { fresh = b; marks = ns }
+
+unfoldable pub noting : List ℕ → List ℕ → Marking
+noting [] ns = marking true ns
+noting (p ∷ ps) ns = cond (isFree ns p) (noting ps (set ns p 1)) (marking false ns)

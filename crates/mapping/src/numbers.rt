@@ -1,0 +1,21 @@
+// The variables of a list, one by one.
+ghost use Rattle.mapping.specs.Numbers.{ItemAt};
+use lines::Literal;
+
+// A variable of a list and the place after it, or the list's end.
+pub enum Item {
+    Of(usize, usize),
+    End,
+}
+
+pub fn item_at(line: &[u8], at: usize) -> Item
+    ensures { λ r. ⌜ ItemAt (now (line .entry)) at r ⌝ }
+{
+    let Literal::Of(x, e) = lines::literal_at(line, at) else {
+        return Item::End;
+    };
+    if x == 0 {
+        return Item::End;
+    }
+    Item::Of((x / 2) as usize, e)
+}

@@ -1,0 +1,5 @@
+-- Laws of crate redundancy.
+pub mod DenyLaws
+pub mod BridgeLaws
+pub mod AdditionLaws
+pub mod DeletionLaws

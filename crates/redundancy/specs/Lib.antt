@@ -1,0 +1,3 @@
+-- What the contracts of crate redundancy say.
+pub mod Additions
+pub mod Deletions

@@ -1,0 +1,123 @@
+// Deletions: the earliest standing clause of the same set. The deleted clause's literals are trail[0..n), and falses marks them: a deletion
+// cuts the trail to 0 first, since what followed from the standing clauses may follow no more.
+ghost use mathlib.Core.Path.{_≡_};
+ghost use Prim.Native.Nat.{_≤_, _<_};
+ghost use lib.ListN.{length};
+ghost use Rattle.lines.specs.Lists.{all};
+ghost use Rattle.rules.specs.Basics.{isIn};
+ghost use Rattle.clauses.specs.Standing.{literalsIn};
+ghost use Rattle.propagation.specs.Trail.{off, ReadyIn};
+ghost use Rattle.redundancy.specs.Deletions.{sameAs, ListedIn, listIn, MoreBy, DeletedIn};
+use crate::addition::holds;
+use clauses::Cursor;
+use clauses::after;
+use clauses::clause;
+use clauses::literal;
+use clauses::remove;
+use clauses::stands;
+use propagation::trail::Falses;
+use propagation::trail::Trail;
+use propagation::trail::assume;
+use propagation::trail::is_off;
+use propagation::trail::undo;
+use propagation::trail::wide16;
+
+// One literal more of the deleted clause; the trail's length.
+pub fn list_literal(falses: &mut Falses, trail: &mut Trail, n: usize, l: u32) -> usize
+    ensures { λ r. ⌜ (ListedIn (falses .entry) (trail .entry) n → (l < 65536)
+        → ListedIn (falses .exit) (trail .exit) r × MoreBy l (listIn (trail .entry) n) (listIn (trail .exit) r)) ⌝ }
+{
+    assume(falses, trail, n, l)
+}
+
+// Whether falses marks every literal of a clause.
+fn all_marked(table: &[i32], start: Cursor, falses: &Falses) -> bool
+    ensures { λ r. ⌜ r ≡ all (off (now (falses .entry))) (literalsIn (table .entry) start) ⌝ }
+{
+    let mut i = start;
+    loop {
+        let l = literal(table, i);
+        if l == 0 {
+            return true;
+        }
+        i = after(table, i);
+        if !is_off(falses, l) {
+            return false;
+        }
+    }
+}
+
+// Whether a clause holds each of trail[0..n).
+fn covers(table: &[i32], start: Cursor, trail: &Trail, n: usize) -> bool
+    ensures { λ r. ⌜ (n ≤ 65536 → length (now (trail .entry)) ≡ 65536
+        → r ≡ all (isIn (literalsIn (table .entry) start)) (listIn (trail .entry) n)) ⌝ }
+{
+    let mut k = 0;
+    while k < n {
+        if 65536 <= k {
+            return false;
+        }
+        let l = wide16(trail[k]);
+        k += 1;
+        if !holds(table, start, l) {
+            return false;
+        }
+    }
+    true
+}
+
+fn is_same(table: &[i32], start: Cursor, falses: &Falses, trail: &Trail, n: usize) -> bool
+    ensures { λ r. ⌜ (ListedIn (falses .entry) (trail .entry) n
+        → r ≡ sameAs (listIn (trail .entry) n) (literalsIn (table .entry) start)) ⌝ }
+{
+    if all_marked(table, start, falses) {
+        return covers(table, start, trail, n);
+    }
+    false
+}
+
+// The earliest standing clause of the same set stands no more; whether there is one.
+fn take_earliest(
+    table: &[i32],
+    marks: &mut [i32],
+    count: usize,
+    falses: &Falses,
+    trail: &Trail,
+    n: usize,
+) -> bool
+    ensures { λ r. ⌜ (ListedIn (falses .entry) (trail .entry) n
+        → DeletedIn (listIn (trail .entry) n) (table .entry) (marks .entry) (marks .exit) count r) ⌝ }
+{
+    let mut found = false;
+    let mut place = 0;
+    while place < count {
+        let k = place;
+        place += 1;
+        if stands(table, marks, k) {
+            if is_same(table, clause(table, marks, k), falses, trail, n) {
+                remove(marks, k);
+                found = true;
+                place = count;
+            }
+        }
+    }
+    found
+}
+
+// The same, with an empty trail afterwards.
+pub fn delete(
+    table: &[i32],
+    marks: &mut [i32],
+    count: usize,
+    falses: &mut Falses,
+    trail: &Trail,
+    n: usize,
+) -> bool
+    ensures { λ r. ⌜ (ListedIn (falses .entry) (trail .entry) n
+        → DeletedIn (listIn (trail .entry) n) (table .entry) (marks .entry) (marks .exit) count r
+        × ReadyIn (falses .exit) (trail .entry) 0) ⌝ }
+{
+    let found = take_earliest(table, marks, count, falses, trail, n);
+    undo(falses, trail, n, 0);
+    found
+}

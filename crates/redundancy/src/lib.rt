@@ -1,0 +1,3 @@
+// What an addition and a deletion do to the standing clauses.
+pub mod addition;
+pub mod deletion;

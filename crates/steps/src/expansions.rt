@@ -1,0 +1,156 @@
+// The judge of an `e` line.
+ghost use mathlib.Core.Path.{_≡_};
+ghost use Rattle.rules.specs.Forms.{expansion};
+ghost use Rattle.tables.specs.Tables.{six};
+ghost use Rattle.clauses.specs.Standing.{literalsFrom};
+ghost use Rattle.steps.specs.Shown.{four};
+ghost use Rattle.steps.specs.Judges.{Judges};
+ghost use Rattle.steps.specs.Stands.{oneExpansion};
+ghost use Rattle.steps.specs.Expands.{allMapped, hintAt, fitsAt, ruleBroken};
+use crate::Counts;
+use crate::Progress;
+use crate::Step;
+use crate::additions::stand;
+use crate::order::hint_missing;
+use crate::order::one_more;
+use cells::wide;
+use clauses::Cursor;
+use expansion::Starts;
+use mapping::Noted;
+use propagation::Watches;
+use propagation::trail::Falses;
+use propagation::trail::Trail;
+
+// Whether all copies of a clause, from a literal of it on, are mapped.
+fn all_mapped(proof: &[i32], from: Cursor, noted: &Noted) -> bool
+    ensures { λ r. ⌜ r ≡ allMapped (now (noted .entry)) (literalsFrom (now (proof .entry)) from) ⌝ }
+{
+    let mut c = from;
+    loop {
+        let x = clauses::literal(proof, c);
+        if x == 0 {
+            return true;
+        }
+        if mapping::is_mapped(noted, x) {
+            c = clauses::after(proof, c);
+        } else {
+            return false;
+        }
+    }
+}
+
+// What hint number e says, counted from 0.
+fn hint_at(proof: &[i32], e: u32) -> usize
+    ensures { λ r. ⌜ r ≡ hintAt (now (proof .entry)) e ⌝ }
+{
+    wide(cells::code(proof, wide(e)) / 2)
+}
+
+// Whether the pending clause is an expansion of the clause that its hint names; without hints, of any clause.
+fn fits(
+    p: Progress,
+    prefix: &[i32],
+    matrix: &[i32],
+    map: &[i32],
+    proof: &[i32],
+    marks: &[i32],
+    values: &[i32],
+    starts: &Starts,
+) -> bool
+    ensures { λ r. ⌜ r ≡ fitsAt p
+        (six (prefix .entry) (matrix .entry) (map .entry) (proof .entry) (marks .entry) (values .entry)) (now (starts .entry)) ⌝ }
+{
+    let store = p.store;
+    let l = clauses::written(store);
+    if p.hinted.given {
+        let n = hint_at(proof, p.counts.expansions);
+        return expansion::expands_named(prefix, values, map, proof, l, matrix, starts, n);
+    }
+    let c = wide(p.formula.c);
+    expansion::expands_any(prefix, values, map, proof, l, matrix, starts, c)
+}
+
+// The first of the rules 9, 10 and 11 that the pending clause breaks; 0 if none.
+fn rule_broken(
+    p: Progress,
+    prefix: &[i32],
+    matrix: &[i32],
+    map: &[i32],
+    proof: &[i32],
+    marks: &[i32],
+    values: &[i32],
+    starts: &Starts,
+    noted: &Noted,
+    falses: &Falses,
+    trail: &Trail,
+) -> u32
+    ensures { λ r. ⌜ r ≡ ruleBroken p
+        (six (prefix .entry) (matrix .entry) (map .entry) (proof .entry) (marks .entry) (values .entry))
+        (four (starts .entry) (noted .entry) (falses .entry) (trail .entry)) ⌝ }
+{
+    let store = p.store;
+    if all_mapped(proof, clauses::pending(store), noted) {
+        if hint_missing(p) {
+            return 10;
+        }
+        if fits(p, prefix, matrix, map, proof, marks, values, starts) {
+            return 0;
+        }
+        return 11;
+    }
+    9
+}
+
+fn with_expansion(c: Counts) -> Counts
+    ensures { λ r. ⌜ r ≡ oneExpansion c ⌝ }
+{
+    Counts {
+        expansions: one_more(c.expansions),
+        additions: c.additions,
+        deletions: c.deletions,
+    }
+}
+
+// Rules 9, 10 and 11 of the pending clause, which has n literals and copies up to m: it stands, or is refused.
+pub fn expand(
+    p: Progress,
+    n: usize,
+    m: u32,
+    prefix: &[i32],
+    matrix: &[i32],
+    map: &[i32],
+    proof: &[i32],
+    marks: &mut [i32],
+    values: &[i32],
+    starts: &Starts,
+    noted: &Noted,
+    falses: &mut Falses,
+    trail: &mut Trail,
+    watches: &mut Watches,
+) -> Step
+    ensures { λ r. ⌜ Judges expansion p n m
+        (six (prefix .entry) (matrix .entry) (map .entry) (proof .entry) (marks .entry) (values .entry))
+        (four (starts .entry) (noted .entry) (falses .entry) (trail .entry)) r
+        (six (prefix .entry) (matrix .entry) (map .entry) (proof .entry) (marks .exit) (values .entry))
+        (four (starts .entry) (noted .entry) (falses .exit) (trail .exit)) ⌝ }
+{
+    let k = rule_broken(
+        p,
+        prefix,
+        matrix,
+        map,
+        proof,
+        marks,
+        values,
+        starts,
+        noted,
+        falses,
+        trail,
+    );
+    if k != 0 {
+        return Step::Refuse(k);
+    }
+    let counts = with_expansion(p.counts);
+    let units = p.units;
+    Step::Next(stand(p, counts, units, n, m, proof, marks, falses, trail, watches))
+}

@@ -1,0 +1,3 @@
+-- Laws of the six tables.
+pub mod Frames
+pub mod Rooms
