@@ -75,11 +75,11 @@ pub record Shown (p : Progress) (t : Tables) (w : Work) (f : Formula) (s : State
   pub needs : s .needs ≡ needsOf p
   pub room : fits (lengthsOf t) (needsOf p) ≡ true
 
--- A measure that bounds every place and count: a line of n bytes adds at most 3n to it.
+-- A measure that bounds the places of map, proof and marks in use and the three counts: a line of n bytes adds at most 3n to it.
 abbrev pub weight : Progress → ℕ
 weight p = p .mapped .used + proofNeed (p .store) + marksNeed (p .store) + p .counts .expansions + p .counts .additions + p .counts .deletions
 
--- a line of n bytes leaves every place and count below 2^22
+-- a line of n bytes leaves the measure at most 2^22
 abbrev pub Light : Progress → ℕ → Type 0
 Light p n = weight p + 3 * n ≤ 4194304
 
