@@ -17,9 +17,12 @@ struct Tables {
         std::vector<int32_t>(4096),   std::vector<int32_t>(524288), std::vector<int32_t>(524288),
         std::vector<int32_t>(524288), std::vector<int32_t>(524288), std::vector<int32_t>(16384)};
 
-    int32_t *at(size_t table) { return stores[table].data(); }
+    int32_t *at(size_t table) { return hutsvida_table(stores[table].data(), stores[table].size()); }
     size_t length(size_t table) const { return stores[table].size(); }
 };
+
+// A file's bytes to lend: those of an empty file may be a null pointer.
+const uint8_t *lent(const Bytes &bytes) { return hutsvida_bytes(bytes.data(), bytes.size()); }
 
 bool read_file(const char *name, Bytes &bytes) {
     std::FILE *file = std::fopen(name, "rb");
@@ -33,29 +36,29 @@ bool read_file(const char *name, Bytes &bytes) {
 }
 
 void check(const Bytes &formula, const Bytes &certificate, Tables &t, uint32_t *seven) {
-    hutsvida_check(formula.data(), formula.size(), certificate.data(), certificate.size(), t.at(0), t.length(0), t.at(1),
+    hutsvida_check(lent(formula), formula.size(), lent(certificate), certificate.size(), t.at(0), t.length(0), t.at(1),
                    t.length(1), t.at(2), t.length(2), t.at(3), t.length(3), t.at(4), t.length(4), t.at(5), t.length(5), seven);
 }
 
 void check_all(const std::vector<Bytes> &files, Tables &t, std::vector<uint32_t> &out) {
     Bytes bytes;
-    bytes.reserve(1);
     std::vector<size_t> ends;
     for (const Bytes &file : files) {
         bytes.insert(bytes.end(), file.begin(), file.end());
         ends.push_back(bytes.size());
     }
-    hutsvida_check_all(bytes.data(), bytes.size(), ends.data(), ends.size(), t.at(0), t.length(0), t.at(1), t.length(1), t.at(2),
-                       t.length(2), t.at(3), t.length(3), t.at(4), t.length(4), t.at(5), t.length(5), out.data(), out.size());
+    hutsvida_check_all(lent(bytes), bytes.size(), hutsvida_ends(ends.data(), ends.size()), ends.size(), t.at(0), t.length(0),
+                       t.at(1), t.length(1), t.at(2), t.length(2), t.at(3), t.length(3), t.at(4), t.length(4), t.at(5),
+                       t.length(5), hutsvida_out(out.data(), out.size()), out.size());
 }
 
 void print(const uint32_t *seven, const Bytes &formula, const Bytes &certificate) {
-    std::printf("%s", seven[HUTSVIDA_WORD] == 0 ? "accepted" : "refused");
+    std::printf("%s", seven[HUTSVIDA_WORD] == HUTSVIDA_ACCEPTED ? "accepted" : "refused");
     for (int field = HUTSVIDA_NUMBER; field < HUTSVIDA_FIELDS; field++) std::printf(",%u", seven[field]);
     std::printf("\n");
     if (seven[HUTSVIDA_LINE] == 0) return;
     size_t ends[2];
-    hutsvida_line(formula.data(), formula.size(), certificate.data(), certificate.size(), seven[HUTSVIDA_FILE],
+    hutsvida_line(lent(formula), formula.size(), lent(certificate), certificate.size(), seven[HUTSVIDA_FILE],
                   seven[HUTSVIDA_LINE], ends);
     const Bytes &file = seven[HUTSVIDA_FILE] == 1 ? formula : certificate;
     std::printf("  ");
@@ -70,8 +73,7 @@ int main(int count, char **names) {
         std::fprintf(stderr, "usage: example FORMULA CERTIFICATE [FORMULA CERTIFICATE ...]\n");
         return 2;
     }
-    // A byte of room each: the pointer to an empty file is not null.
-    std::vector<Bytes> files(count - 1, Bytes(1));
+    std::vector<Bytes> files(count - 1);
     for (int i = 1; i < count; i++) {
         if (!read_file(names[i], files[i - 1])) {
             std::fprintf(stderr, "example: cannot read %s\n", names[i]);
@@ -89,7 +91,7 @@ int main(int count, char **names) {
     for (size_t i = 0; i < files.size(); i += 2) {
         const uint32_t *seven = &out[i / 2 * HUTSVIDA_FIELDS];
         print(seven, files[i], files[i + 1]);
-        all = all && seven[HUTSVIDA_WORD] == 0;
+        all = all && seven[HUTSVIDA_WORD] == HUTSVIDA_ACCEPTED;
     }
     if (std::fflush(stdout) != 0 || std::ferror(stdout) != 0) {
         std::fprintf(stderr, "example: cannot print the verdicts\n");

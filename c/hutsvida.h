@@ -4,8 +4,9 @@
  * crates/ferat_c, crates/tables/specs/Checked.antt and crates/checks/specs (Runs.antt, All.antt).
  *
  * Every call takes all inputs, ends, and writes only to what it is lent for writing. What is lent for writing overlaps nothing
- * else that is lent to the same call. A pointer with length 0 is not read, but is not null. The calls keep nothing between
- * them: calls on different tables may run side by side. The two checks take about 1.7 MiB of stack. */
+ * else that is lent to the same call. A pointer with length 0 is not read, but is not null: where it may be, as an empty
+ * std::vector's data() may, lend what the functions at the end of this file make of it. The calls keep nothing between
+ * them: calls on different tables may run side by side. The two checks take about 2.2 MiB of stack. */
 #ifndef HUTSVIDA_H
 #define HUTSVIDA_H
 
@@ -18,7 +19,7 @@ extern "C" {
 
 /* The seven fields of a verdict, by their place in `seven`. */
 enum {
-    HUTSVIDA_WORD = 0,       /* 0 accepted, 1 refused */
+    HUTSVIDA_WORD = 0,       /* HUTSVIDA_ACCEPTED or HUTSVIDA_REFUSED */
     HUTSVIDA_NUMBER = 1,     /* 0, or the refusal's number, 1 to 15 */
     HUTSVIDA_FILE = 2,       /* 0 none, 1 formula, 2 certificate */
     HUTSVIDA_LINE = 3,       /* counted from 1; 0 where no line is meant */
@@ -27,6 +28,9 @@ enum {
     HUTSVIDA_DELETIONS = 6,  /* deletion lines accepted */
     HUTSVIDA_FIELDS = 7
 };
+
+/* The words. Neither is 0: places that were cleared, and no check wrote to, hold no verdict. */
+enum { HUTSVIDA_ACCEPTED = 1, HUTSVIDA_REFUSED = 2 };
 
 /* THE CHECK of a formula (QDIMACS) and a certificate (FERAT) in six lent tables, whatever these hold. Accepted means that the
  * formula is false. Table places beyond those that the files need hold what they held. */
@@ -43,8 +47,8 @@ void hutsvida_check(const uint8_t *formula, size_t formula_length,
 /* THE LIST of checks, one after the other in the same tables. The files stand one after the other in `bytes`: ends[0] is the
  * end of the first formula, ends[1] that of its certificate, and so on; an end below the one before it counts as that one, an
  * end above bytes_length as bytes_length, and an odd last end is left alone. The check with index i writes its fields to
- * out[7 * i] and the six places after it; fields beyond out_length are dropped. Each verdict is the one that a single check
- * gives in tables of zeros of the same sizes. */
+ * out[7 * i] and the six places after it; fields beyond out_length are dropped, and places beyond those fields keep what they
+ * hold. Each verdict is the one that a single check gives in tables of zeros of the same sizes. */
 void hutsvida_check_all(const uint8_t *bytes, size_t bytes_length,
                         const size_t *ends, size_t ends_length,
                         int32_t *prefix, size_t prefix_length,
@@ -60,6 +64,27 @@ void hutsvida_check_all(const uint8_t *bytes, size_t bytes_length,
 void hutsvida_line(const uint8_t *formula, size_t formula_length,
                    const uint8_t *certificate, size_t certificate_length,
                    uint32_t file, size_t line, size_t ends[2]);
+
+/* What to lend for a pointer that may be null where its length is 0: itself, or one that is not null. */
+static inline const uint8_t *hutsvida_bytes(const uint8_t *at, size_t length) {
+    static const uint8_t none = 0;
+    return length == 0 ? &none : at;
+}
+
+static inline const size_t *hutsvida_ends(const size_t *at, size_t length) {
+    static const size_t none = 0;
+    return length == 0 ? &none : at;
+}
+
+static inline int32_t *hutsvida_table(int32_t *at, size_t length) {
+    static int32_t none = 0;
+    return length == 0 ? &none : at;
+}
+
+static inline uint32_t *hutsvida_out(uint32_t *at, size_t length) {
+    static uint32_t none = 0;
+    return length == 0 ? &none : at;
+}
 
 #ifdef __cplusplus
 }

@@ -1,5 +1,5 @@
 //! The three calls of the proved library (crate `ferat_c`), for Rust. The two
-//! checks take about 1.7 MiB of stack: most of what a thread has by default.
+//! checks take about 2.2 MiB of stack: more than a thread has by default.
 
 use std::os::raw::c_uint;
 
@@ -54,11 +54,16 @@ extern "C" {
     );
 }
 
+/// The words of a verdict. Neither is 0: places that were cleared, and no
+/// check wrote to, hold no verdict.
+pub const ACCEPTED: u32 = 1;
+pub const REFUSED: u32 = 2;
+
 /// The six tables, lent: prefix, matrix, map, proof, marks, values.
 pub type Tables<'a> = [&'a mut [i32]; 6];
 
-/// The check: the word (accepted 0, refused 1), number, file, line, and the
-/// `e`, addition and deletion lines accepted.
+/// The check: the word, number, file, line, and the `e`, addition and deletion
+/// lines accepted.
 pub fn check(formula: &[u8], certificate: &[u8], tables: Tables) -> [u32; 7] {
     let [prefix, matrix, map, proof, marks, values] = tables;
     let mut seven = [0; 7];

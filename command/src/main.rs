@@ -21,7 +21,7 @@ const LONGEST: u64 = 1_048_576;
 /// the next; for each mark a line's zero and byte 10; the copies.
 const PLACES: [usize; 6] = [4_096, 524_288, 524_288, 524_288, 524_288, 16_384];
 
-/// The call takes about 1.7 MiB.
+/// The call takes about 2.2 MiB.
 const STACK: usize = 16 << 20;
 
 /// Document 01's words for the numbers.
@@ -81,10 +81,11 @@ fn verdicts(bytes: &[u8], ends: &[usize]) -> Result<Vec<u32>, String> {
 
 /// A verdict's line and, for a refusal, where it is and why.
 fn print_pair(text: &mut Vec<u8>, pair: &Pair, seven: &[u32]) {
-    let word = if seven[0] == 0 { "accepted" } else { "refused" };
+    let accepted = seven[0] == hutsvida::ACCEPTED;
+    let word = if accepted { "accepted" } else { "refused" };
     let numbers: Vec<String> = seven[1..].iter().map(u32::to_string).collect();
     text.extend(format!("{word},{}\n", numbers.join(",")).bytes());
-    if seven[0] == 0 {
+    if accepted {
         return;
     }
     let (file, line) = (seven[2], seven[3]);
@@ -121,7 +122,7 @@ fn run(names: &[OsString]) -> Result<bool, String> {
     let mut out = std::io::stdout();
     let printed = out.write_all(&text).and_then(|()| out.flush());
     printed.map_err(|error| format!("cannot print the verdicts: {error}"))?;
-    Ok(numbers.chunks(7).all(|seven| seven[0] == 0))
+    Ok(numbers.chunks(7).all(|seven| seven[0] == hutsvida::ACCEPTED))
 }
 
 fn main() -> ExitCode {

@@ -35,7 +35,7 @@ upTo (x ∷ xs) = cond (eqb x 0) [] (x ∷ upTo xs)
 unfoldable pub listAt : List ℤ → ℕ → List ℕ
 listAt t i = upTo (drop i (codesOf t))
 
--- THE FRAME OF A TABLE: u has the length of t and, from place n on, what t has. "places beyond the need hold what they held"
+-- THE FRAME OF A TABLE: u has the length of t and, from place n on, what t has. "places beyond the need .. hold what they held"
 pub record Kept (n : ℕ) (t u : List ℤ) : Type 0 where
   pub long : length u ≡ length t
   pub beyond : drop n u ≡ drop n t

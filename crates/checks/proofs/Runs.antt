@@ -12,7 +12,7 @@ use Rattle.rules.proofs.Theorem.{accepted-false}
 use Rattle.tables.specs.Tables.{Tables, lengthsOf, zeros}
 use Rattle.tables.specs.Checked.{CheckedBy}
 use Rattle.tables.proofs.Frames.{same-lengths, all-self, zeros-lengths}
-use Rattle.checks.specs.Runs.{Kind, ferat, rulesOf, Job, Runs, none, more, Demanded, Each, end, and}
+use Rattle.checks.specs.Runs.{Kind, ferat, rulesOf, rangeOf, Job, Runs, none, more, Demanded, Each, end, and}
 
 -- what the rules of its kind say of a check in tables of these lengths
 abbrev pub reportAt : Places → Job → Report
@@ -28,14 +28,14 @@ single-report : {j : Job} {t u : Tables} {q : Report} → Runs (j ∷ []) t (q �
 single-report (more c none) = c .report
 
 -- a check in tables of the same lengths as s
-demanded : (s t u : Tables) (j : Job) (r : Report) → lengthsOf t ≡ lengthsOf s → CheckedBy (rulesOf (j .kind)) (j .formula) (j .certificate) t r u → Demanded s j r
+demanded : (s t u : Tables) (j : Job) (r : Report) → lengthsOf t ≡ lengthsOf s → CheckedBy (rulesOf (j .kind)) (rangeOf (j .kind)) (j .formula) (j .certificate) t r u → Demanded s j r
 demanded s t u j r e c =
     let z = zeros (lengthsOf s) in
     let k : r ≡ reportAt (lengthsOf z) j = c .report ∙ ap (λ n. reportAt n j) (e ∙ sym (zeros-lengths (lengthsOf s))) in
     record {
       falsity = λ a. sound (j .kind) (limits (lengthsOf t)) (j .formula) (j .certificate) (ap (λ (x : Report). x .verdict) (sym (c .report)) ∙ a);
       single = λ q w g. k ∙ sym (single-report g);
-      zeroed = (z, more (record { report = k; kept = all-self _ z }) none);
+      zeroed = (z, more (record { report = k; kept = all-self _ z; ranged = c .ranged }) none);
     }
 
 -- EVERY LIST: accepted and refused checks of all kinds in any order, of any length

@@ -3,19 +3,23 @@ use mathlib.Core.Path.{_≡_}
 use mathlib.Core.List.{List, [], _∷_}
 use Prim.Native.Nat.{ℕ}
 use Rattle.rules.specs.Limits.{Limits}
-use Rattle.rules.specs.Verdict.{Checked, check}
+use Rattle.rules.specs.Verdict.{Checked, check, Ranged}
 use Rattle.rules.specs.Falsity.{FalseFile}
+use Rattle.rules.specs.declared.Verdict.{Verdict}
 use Rattle.rules.specs.declared.Verdict.the-variants.{Accepted}
 use Rattle.rules.specs.declared.Report.{Report}
 use Rattle.tables.specs.Tables.{Tables, lengthsOf, zeros}
 use Rattle.tables.specs.Checked.{CheckedBy}
 
--- the kinds of checks, and the rules of each
+-- the kinds of checks, and the rules and the range of verdicts of each
 pub data Kind : Type 0 where
   ferat : Kind
 
 abbrev pub rulesOf : Kind → Limits → List ℕ → List ℕ → Checked
 rulesOf ferat = check
+
+abbrev pub rangeOf : Kind → List ℕ → List ℕ → Verdict → Type 0
+rangeOf ferat = Ranged
 
 -- a check: its kind and its two files
 pub record Job : Type 0 where
@@ -28,7 +32,7 @@ pub record Job : Type 0 where
 pub data Runs : List Job → Tables → List Report → Tables → Type 0 where
   none : {t : Tables} → Runs [] t [] t
   more : {j : Job} {js : List Job} {t u w : Tables} {r : Report} {rs : List Report}
-      → CheckedBy (rulesOf (j .kind)) (j .formula) (j .certificate) t r u → Runs js u rs w → Runs (j ∷ js) t (r ∷ rs) w
+      → CheckedBy (rulesOf (j .kind)) (rangeOf (j .kind)) (j .formula) (j .certificate) t r u → Runs js u rs w → Runs (j ∷ js) t (r ∷ rs) w
 
 -- DEMAND 3 of one check of a list that began in tables t
 pub record Demanded (t : Tables) (j : Job) (r : Report) : Type 0 where

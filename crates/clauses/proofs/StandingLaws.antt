@@ -2,7 +2,7 @@
 use mathlib.Core.Path.{_≡_, refl, sym, _∙_, ap, ap₂, subst}
 use mathlib.Core.Bool.{Bool, true, false, not, cond, _||_, _&&_}
 use mathlib.Core.List.{List, [], _∷_, _++_, map, append-nil, List·Memᴰ·head, List·Memᴰ·tail, List·Memᴰ·not-nil, List·Memᴰ·append-cases, List·Memᴰ·eq-of-singleton, Memᴰ·append-left, Memᴰ·append-right}
-use Prim.Native.Nat.{ℕ, zero, suc, _-_, _/_, _%_, _<_}
+use Prim.Native.Nat.{ℕ, zero, suc, _+_, _-_, _/_, _%_, _<_, _≤_}
 use native.Mathlib.Omega.{arith}
 use lib.Dec.{eqb, leb}
 use lib.IntN.{ℤ, pos}
@@ -19,7 +19,7 @@ use Rattle.rules.proofs.CodesLaw.{lits-codes}
 use Rattle.rules.proofs.Kit.{In, either, clear, by-yes, in-any, any-in, or-fl, or-fr, and-l, and-r, and-i}
 use Rattle.clauses.specs.declared.Cursor.{Cursor}
 use Rattle.clauses.specs.declared.Store.{Store}
-use Rattle.clauses.specs.Standing.{stands, clauseAt, standing, literals, literalsFrom, literalAt, next, placesOf, marksNeed, removed, emptyAt, hasEmpty, Filled}
+use Rattle.clauses.specs.Standing.{stands, NoneIn, clauseAt, standing, literals, literalsFrom, literalAt, next, placesOf, marksNeed, removed, emptyAt, hasEmpty, Filled}
 use Rattle.clauses.proofs.CursorLaws.{read-end, read-more}
 
 -- THE CLAUSES BY THEIR PLACES
@@ -45,6 +45,32 @@ module _ (t ms : List ℤ) where
           (subst (λ j. In (clauseAt t ms k) (part j)) (eqb-true k c q)
           (subst (In (clauseAt t ms k)) (sym (ap (λ b. cond b (clauseAt t ms k ∷ []) []) e)) (List·Memᴰ·head refl)))
       go false q more = Memᴰ·append-left (part c) (more (omega (arith, eqb-false k c q)) e)
+
+  -- none stands at the places between two
+  pub none-start : (k : ℕ) → NoneIn t ms k k
+  unfolding NoneIn
+  none-start k j a b = absurd (omega arith)
+
+  pub none-more : (k m n : ℕ) → NoneIn t ms k m → NoneIn t ms m n → NoneIn t ms k n
+  unfolding NoneIn
+  none-more k m n h g j a b = go (leb m j) refl
+    where
+      go : (x : Bool) → leb m j ≡ x → stands t ms j ≡ false
+      go true q = g j (leb-true m j q) b
+      go false q = h j a (leb-false m j q)
+
+  none-one : (k n : ℕ) → n ≤ k + 1 → {a : Bool} → a ≡ stands t ms k → a ≡ false → NoneIn t ms k n
+  unfolding NoneIn
+  none-one k n le ea e j x y = let q : j ≡ k = omega arith in ap (stands t ms) q ∙ sym ea ∙ e
+
+  pub none-four : (k : ℕ) {a b c d : Bool} → a ≡ stands t ms k → b ≡ stands t ms (k + 1) → c ≡ stands t ms (k + 2) → d ≡ stands t ms (k + 3)
+      → (((a || b) || c) || d) ≡ false → NoneIn t ms k (k + 4)
+  none-four k {a} {b} {c} {d} ea eb ec ed z =
+      let y = or-fl ((a || b) || c) d z in let x = or-fl (a || b) c y in
+      none-more k (k + 1) (k + 4) (none-one k (k + 1) (omega arith) ea (or-fl a b x))
+      (none-more (k + 1) (k + 2) (k + 4) (none-one (k + 1) (k + 2) (omega arith) eb (or-fr a b x))
+      (none-more (k + 2) (k + 3) (k + 4) (none-one (k + 2) (k + 3) (omega arith) ec (or-fr (a || b) c y))
+      (none-one (k + 3) (k + 4) (omega arith) ed (or-fr ((a || b) || c) d z))))
 
   -- each of them has a place
   abbrev pub Placed : List ℕ → ℕ → Type 0

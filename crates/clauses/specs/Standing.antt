@@ -1,6 +1,6 @@
 -- How clauses stand in the proof and marks tables, and the list of the standing ones. Assumes nothing.
 use mathlib.Core.Path.{_≡_}
-use mathlib.Core.Bool.{Bool, not, cond, _&&_}
+use mathlib.Core.Bool.{Bool, false, not, cond, _&&_}
 use mathlib.Core.List.{List, [], _∷_, _++_, map}
 use Prim.Native.Nat.{ℕ, zero, suc, _+_, _-_, _/_, _%_, _<_, _≤_}
 use lib.Dec.{eqb, leb, ltb}
@@ -27,6 +27,10 @@ clauseAt t ms k = listAt t (cellAt ms k / 2)
 unfoldable pub standing : List ℤ → List ℤ → ℕ → List (List ℕ)
 standing t ms zero = []
 standing t ms (suc k) = standing t ms k ++ cond (stands t ms k) (clauseAt t ms k ∷ []) []
+
+-- none stands at the places from k on and below n
+unfoldable pub NoneIn : List ℤ → List ℤ → ℕ → ℕ → Type 0
+NoneIn t ms k n = (j : ℕ) → k ≤ j → j < n → stands t ms j ≡ false
 
 -- clauses of codes as the rules' clauses
 abbrev pub literals : List (List ℕ) → List Lits

@@ -1,13 +1,16 @@
 // The clauses of a certificate in the proof and marks tables. This crate alone knows how they stand there; a clause is named by its place.
 ghost use mathlib.Core.Path.{_≡_};
 ghost use mathlib.Core.List.{[]};
-ghost use Prim.Native.Nat.{_<_};
+ghost use mathlib.Core.Bool.{false};
+ghost use Prim.Native.Nat.{_+_, _<_, _≤_};
+ghost use Rattle.lists.specs.Stores.{endingAt};
 ghost use Rattle.clauses.specs.Standing.{standsIn, clauseIn, standingIn, literalsIn, emptyAt, hasEmpty, literalAt, next};
-ghost use Rattle.clauses.specs.Standing.{placesOf, emptyAbove, pendingFrom, writtenAt, roomFor, stored, removed, StandsNow};
+ghost use Rattle.clauses.specs.Standing.{NoneIn, placesOf, emptyAbove, pendingFrom, writtenAt, roomFor, stored, removed, StandsNow};
 use cells::cell;
 use cells::code;
 use cells::put;
 use cells::wide;
+use lists::Ending;
 
 // The places of the proof table in use, and the number of clauses stored.
 pub struct Store {
@@ -39,6 +42,40 @@ pub fn stands(table: &[i32], marks: &[i32], k: usize) -> bool
     ensures { λ r. ⌜ r ≡ standsIn (table .entry) (marks .entry) k ⌝ }
 {
     cell(marks, k) % 2 != 0
+}
+
+// Whether a clause stands at one of the four places from k on; true where fewer are left. All four are tested, which is one step of the machine.
+fn near(table: &[i32], marks: &[i32], k: usize) -> bool
+    ensures { λ r. ⌜ (r ≡ false → NoneIn (now (table .entry)) (now (marks .entry)) k (k + 4)) ⌝ }
+{
+    if marks.len() < 4 {
+        return true;
+    }
+    if marks.len() - 4 < k {
+        return true;
+    }
+    let low = stands(table, marks, k) | stands(table, marks, k + 1);
+    low | stands(table, marks, k + 2) | stands(table, marks, k + 3)
+}
+
+// Passes over places from k on at which no clause stands, four at a time and below n; where that ends.
+pub fn passed(table: &[i32], marks: &[i32], k: usize, n: usize) -> usize
+    ensures { λ r. ⌜ (k ≤ r) × NoneIn (now (table .entry)) (now (marks .entry)) k r ⌝ }
+{
+    let mut j = k;
+    while j < n {
+        if n < 4 {
+            return j;
+        }
+        if n - 4 < j {
+            return j;
+        }
+        if near(table, marks, j) {
+            return j;
+        }
+        j += 4;
+    }
+    j
 }
 
 // The clause at place k.
@@ -87,10 +124,11 @@ pub fn fits(s: Store, n: usize, proof: usize, marks: usize) -> bool
 }
 
 // The literals of a line from place `at` of its text on become the pending clause, which is written where the proof table is free.
-pub fn store_line(line: &[u8], at: usize, table: &mut [i32], s: Store)
-    ensures { λ _. ⌜ now (table .exit) ≡ stored (now (line .entry)) at s (now (table .entry)) ⌝ }
+pub fn store_line(line: &[u8], at: usize, table: &mut [i32], s: Store) -> Ending
+    ensures { λ r. ⌜ (now (table .exit) ≡ stored (now (line .entry)) at s (now (table .entry)))
+        × (r ≡ endingAt (now (line .entry)) at) ⌝ }
 {
-    lists::store_list(line, at, table, s.used);
+    lists::store_list(line, at, table, s.used)
 }
 
 // The pending clause.

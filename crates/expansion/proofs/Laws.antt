@@ -356,8 +356,8 @@ module _ (prefix values maps proof matrix : List ℤ) (l c n : ℕ) (f : Formula
     annotation-part : (y : Lit) → In y (ann p) → In y mine
     annotation-part y i = keep-in (λ l. dependsOn f (sf p) (var l)) (annotation-least y i) (proper-depends f m (shown .proper) p y i)
 
-    within-code : all (isIn A) (keep dependent T) ≡ annotatedBy f m line least p
-    within-code = same-test (all (isIn A) (keep dependent T)) (annotatedBy f m line least p)
+    within-code : all (isIn A) (keep dependent T) ≡ annotatedBy f m least p
+    within-code = same-test (all (isIn A) (keep dependent T)) (annotatedBy f m least p)
         (λ h. and-i (within (ann p) mine) (within mine (ann p)) (in-all (holds mine) (ann p) λ y i. in-holds mine y (annotation-part y i))
         (in-all (holds (ann p)) mine λ y i. in-holds (ann p) y (code-in (ann p) y (all-in (isIn A) h (part-in y i)))))
         (λ h. in-all (isIn A) (keep dependent T) λ k i.
@@ -388,7 +388,7 @@ module _ (prefix values maps proof matrix : List ℤ) (l c n : ℕ) (f : Formula
             sym (in-all (isIn A) (keep dependent T) λ k i. all-in (isIn A) h (in-keep dependent k T i .0))
         go false e = same-count A (keep dependent T) (annotation-distinct p) (distinct-keep dependent T once) within-T
 
-    copy-code : copyFits w st nt T (codeOf x) ≡ annotatedBy f m line least p
+    copy-code : copyFits w st nt T (codeOf x) ≡ annotatedBy f m least p
     unfolding copyFits
     copy-code = ap₂ (λ e ls. isPart w T e (length {A = ℕ} ls)) (code-stands x here) (code-annotation x here) ∙ part-code ∙ within-code
 
@@ -396,12 +396,12 @@ module _ (prefix values maps proof matrix : List ℤ) (l c n : ℕ) (f : Formula
   codes-expand : expandsCodes w st nt L C ≡ expands f m line clause
   unfolding expandsCodes annotationsFit expandsByLeast expandsBy
   codes-expand =
-      ap₂ (λ a r. cond a r false) literals-code (ap₂ (λ b d. cond b d false) apart-code (all-codes (copyFits w st nt T) (annotatedBy f m line least) line copy-code))
-      ∙ go (sameLiterals f m line clause) (not (bothSigns least)) (all (annotatedBy f m line least) (vars line))
-      ∙ ap (λ k. not (bothSigns least) && ((k && sameLiterals f m line clause) && all (annotatedBy f m line least) (vars line))) (sym false-in-least)
+      ap₂ (λ a r. cond a r false) literals-code (ap₂ (λ b d. cond b d false) apart-code (all-codes (copyFits w st nt T) (annotatedBy f m least) line copy-code))
+      ∙ go (sameLiterals f m line clause) (not (bothSigns least)) (all (annotatedBy f m least) (vars line))
+      ∙ ap (λ k. not (bothSigns least) && ((k && sameLiterals f m line clause) && all (annotatedBy f m least) (vars line))) (sym false-in-least)
       ∙ sym (expands-least f m line clause (shown .proper) (shown .told .once))
     where
-      false-in-least : falsifies f m line least clause ≡ true
+      false-in-least : falsifies f least clause ≡ true
       false-in-least = in-all (λ l. holds least (negate l)) (universals f clause) λ y i.
           let s = in-keep (λ l. universal f (var l)) y clause i in
           in-holds least (negate y) (least-universal f m line clause y (s .0) (s .1))

@@ -11,7 +11,7 @@ use lib.Dec.{eqb, ltb}
 use borrow.Author.Tests.{eqb-true, eqb-false, lt-ltb, le-ltb, ltb-false}
 use Rattle.cells.specs.Cells.{codeAt, listAt}
 use Rattle.rules.specs.Basics.{isIn}
-use Rattle.expansion.specs.Marks.{marks, stamp, Marked}
+use Rattle.expansion.specs.Marks.{marks, stamp, Marked, Marking}
 use Rattle.expansion.specs.Codes.{imageOf, imagesOf}
 use Rattle.expansion.proofs.Walks.{stop, more}
 
@@ -85,10 +85,29 @@ zeros-marked ys s e y h =
     ap (λ l. getD l y 0) e ∙ marks-at ys (replicate 8194 0) y h (rw (length-replicate {A = ℕ} 8194 0) h)
     ∙ ap (cond (isIn ys y) 1) (getD-zeros 8194 y)
 
+marks-length : (ys s : List ℕ) → length (marks ys s) ≡ length s
+unfolding marks
+marks-length [] s = refl
+marks-length (y ∷ ys) s = marks-length ys (stamp s y) ∙ stamp-length s y
+
+pub zeros-marking : (ys s : List ℕ) → s ≡ marks ys (replicate 8194 0) → Marking s ys
+unfolding Marking Marked
+zeros-marking ys s e y h =
+    zeros-marked ys s e y (omega (arith, h, ap (length {A = ℕ}) e, marks-length ys (replicate 8194 0), length-replicate {A = ℕ} 8194 0))
+
+-- no marks at all
+pub none-marking : (ys s : List ℕ) → length s ≤ 0 → Marking s ys
+unfolding Marking
+none-marking ys s e y h = absurd (omega (arith, e, h))
+
+one-is : (b : Bool) → eqb (cond b 1 0) 1 ≡ b
+one-is true = refl
+one-is false = refl
+
 pub marked-is : (s ys : List ℕ) (y : ℕ) → Marked s ys → y < 8194 → eqb (getD s y 0) 1 ≡ isIn ys y
 unfolding Marked
-marked-is s ys y h l = ap (λ k. eqb k 1) (h y l) ∙ go (isIn ys y)
-  where
-    go : (b : Bool) → eqb (cond b 1 0) 1 ≡ b
-    go true = refl
-    go false = refl
+marked-is s ys y h l = ap (λ k. eqb k 1) (h y l) ∙ one-is (isIn ys y)
+
+pub marking-is : (s ys : List ℕ) (y : ℕ) → Marking s ys → y < length s → eqb (getD s y 0) 1 ≡ isIn ys y
+unfolding Marking
+marking-is s ys y h l = ap (λ k. eqb k 1) (h y l) ∙ one-is (isIn ys y)

@@ -19,6 +19,10 @@ marks (y ∷ ys) s = marks ys (stamp s y)
 unfoldable pub Marked : List ℕ → List ℕ → Type 0
 Marked s ys = (y : ℕ) → y < 8194 → getD s y 0 ≡ cond (isIn ys y) 1 0
 
+-- the same as far as the marks go
+unfoldable pub Marking : List ℕ → List ℕ → Type 0
+Marking s ys = (y : ℕ) → y < length s → getD s y 0 ≡ cond (isIn ys y) 1 0
+
 -- the first n places of an array, the last one first
 unfoldable pub listed : List ℕ → ℕ → List ℕ
 listed h zero = []

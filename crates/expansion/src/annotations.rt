@@ -10,7 +10,7 @@ ghost use Prim.Native.Nat.{_+_, _<_, _≤_};
 ghost use lib.ListN.{length};
 ghost use Rattle.lines.specs.Lists.{all};
 ghost use Rattle.expansion.specs.Marks.{listed, Noted};
-ghost use Rattle.expansion.specs.Codes.{partSize, isPart, copyFits, annotationsFit, words, standsIn, annotationIn, listIn};
+ghost use Rattle.expansion.specs.Codes.{partSize, isPart, longAs, copyFits, annotationsFit, words, standsIn, annotationIn, listIn};
 
 // A formula's variables lie below this.
 const VARIABLES: usize = 4097;
@@ -105,6 +105,29 @@ fn length_next(map: &[i32], last: usize, long: usize, a: usize) -> usize
     length_at(map, a)
 }
 
+// Each copy's annotation has n literals.
+fn all_long(values: &[i32], map: &[i32], proof: &[i32], l: usize, n: usize) -> bool
+    ensures { λ r. ⌜ r ≡ all (longAs (annotationIn (values .entry) (map .entry)) n) (listIn (proof .entry) l) ⌝ }
+{
+    let mut last = map.len();
+    let mut long: usize = 0;
+    let mut i = l;
+    loop {
+        let x = read::code(proof, i);
+        if x == 0 {
+            return true;
+        }
+        let a = copies::annotation_at(values, map, x / 2);
+        long = length_next(map, last, long, a);
+        last = a;
+        if long == n {
+            i += 1;
+        } else {
+            return false;
+        }
+    }
+}
+
 // Each copy's annotation is as long as its part of t.
 fn copies_fit(
     prefix: &[i32],
@@ -158,6 +181,9 @@ pub fn annotations_fit(
     let k = least::join_negations(&mut seen, &mut held, 0, prefix, matrix, c);
     let n = least::join_annotations(&mut seen, &mut held, k, values, map, proof, l);
     if least::one_signed(&seen, &held, n) {
+        if all_long(values, map, proof, l, n) {
+            return true;
+        }
         return copies_fit(prefix, values, map, proof, l, &held, n);
     }
     false

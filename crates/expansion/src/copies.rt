@@ -1,12 +1,11 @@
 // What the values and the map say of a copy.
 use crate::marks;
-use crate::marks::CODES;
 use crate::marks::Seen;
 use crate::read;
 ghost use mathlib.Core.Path.{_≡_};
 ghost use Prim.Native.Nat.{_<_};
 ghost use Rattle.rules.specs.Basics.{isIn};
-ghost use Rattle.expansion.specs.Marks.{marks, Marked};
+ghost use Rattle.expansion.specs.Marks.{marks, Marking};
 ghost use Rattle.expansion.specs.Codes.{annotationAt, imageOf, imagesOf, standsIn, listIn};
 
 // The existential that copy p stands for.
@@ -63,19 +62,19 @@ fn has_image(values: &[i32], map: &[i32], proof: &[i32], l: usize, y: usize) -> 
     }
 }
 
-// The same where what they stand for is marked.
+// The same where what they stand for is marked, as far as the marks go.
 pub fn stood_for(
-    seen: &Seen,
+    seen: &[u8],
     values: &[i32],
     map: &[i32],
     proof: &[i32],
     l: usize,
     y: usize,
 ) -> bool
-    requires { ⌜ Marked (now seen) (imagesOf (standsIn values map) (listIn proof l)) ⌝ }
+    requires { ⌜ Marking (now seen) (imagesOf (standsIn values map) (listIn proof l)) ⌝ }
     ensures { λ r. ⌜ r ≡ isIn (imagesOf (standsIn (values .entry) (map .entry)) (listIn (proof .entry) l)) y ⌝ }
 {
-    if y < CODES {
+    if y < seen.len() {
         return seen[y] == 1;
     }
     has_image(values, map, proof, l, y)

@@ -6,7 +6,7 @@ use crate::marks::Seen;
 use crate::read;
 ghost use mathlib.Core.Path.{_≡_};
 ghost use Rattle.lines.specs.Lists.{all};
-ghost use Rattle.expansion.specs.Marks.{Marked};
+ghost use Rattle.expansion.specs.Marks.{Marking};
 ghost use Rattle.expansion.specs.Codes.{imagesOf, inClause, firstIn, inLine, literalsFit, words, standsIn, listIn};
 
 // Without marks: most clauses that do not fit are told by the line's first literal.
@@ -34,7 +34,7 @@ pub fn first_in_clause(
 
 // The literal x stands for an existential literal of the clause, whose codes are marked.
 fn in_clause(
-    seen: &Seen,
+    seen: &[u8],
     prefix: &[i32],
     values: &[i32],
     map: &[i32],
@@ -42,7 +42,7 @@ fn in_clause(
     c: usize,
     x: usize,
 ) -> bool
-    requires { ⌜ Marked (now seen) (listIn matrix c) ⌝ }
+    requires { ⌜ Marking (now seen) (listIn matrix c) ⌝ }
     ensures { λ r. ⌜ r ≡ inClause (words (prefix .entry)) (standsIn (values .entry) (map .entry)) (listIn (matrix .entry) c) x ⌝ }
 {
     if prefix::existential(prefix, copies::stands(values, map, x / 2)) {
@@ -52,7 +52,7 @@ fn in_clause(
 }
 
 fn line_in_clause(
-    seen: &Seen,
+    seen: &[u8],
     prefix: &[i32],
     values: &[i32],
     map: &[i32],
@@ -61,7 +61,7 @@ fn line_in_clause(
     matrix: &[i32],
     c: usize,
 ) -> bool
-    requires { ⌜ Marked (now seen) (listIn matrix c) ⌝ }
+    requires { ⌜ Marking (now seen) (listIn matrix c) ⌝ }
     ensures { λ r. ⌜ r ≡ all (inClause (words (prefix .entry)) (standsIn (values .entry) (map .entry))
         (listIn (matrix .entry) c)) (listIn (proof .entry) l) ⌝ }
 {
@@ -81,7 +81,7 @@ fn line_in_clause(
 
 // If literal y is existential, one of the line stands for it; what they stand for is marked.
 fn in_line(
-    images: &Seen,
+    images: &[u8],
     prefix: &[i32],
     values: &[i32],
     map: &[i32],
@@ -89,7 +89,7 @@ fn in_line(
     l: usize,
     y: usize,
 ) -> bool
-    requires { ⌜ Marked (now images) (imagesOf (standsIn values map) (listIn proof l)) ⌝ }
+    requires { ⌜ Marking (now images) (imagesOf (standsIn values map) (listIn proof l)) ⌝ }
     ensures { λ r. ⌜ r ≡ inLine (words (prefix .entry)) (standsIn (values .entry) (map .entry)) (listIn (proof .entry) l) y ⌝ }
 {
     if prefix::existential(prefix, y / 2) {
@@ -99,7 +99,7 @@ fn in_line(
 }
 
 fn each_in_line(
-    images: &Seen,
+    images: &[u8],
     prefix: &[i32],
     values: &[i32],
     map: &[i32],
@@ -108,7 +108,7 @@ fn each_in_line(
     matrix: &[i32],
     c: usize,
 ) -> bool
-    requires { ⌜ Marked (now images) (imagesOf (standsIn values map) (listIn proof l)) ⌝ }
+    requires { ⌜ Marking (now images) (imagesOf (standsIn values map) (listIn proof l)) ⌝ }
     ensures { λ r. ⌜ r ≡ all (inLine (words (prefix .entry)) (standsIn (values .entry) (map .entry))
         (listIn (proof .entry) l)) (listIn (matrix .entry) c) ⌝ }
 {
@@ -126,7 +126,10 @@ fn each_in_line(
     }
 }
 
-fn clause_in_line(
+// The line's literals stand for the clause's existential ones; what is looked for is marked, as far as the marks go.
+fn fit_by(
+    seen: &[u8],
+    images: &[u8],
     prefix: &[i32],
     values: &[i32],
     map: &[i32],
@@ -135,16 +138,36 @@ fn clause_in_line(
     matrix: &[i32],
     c: usize,
 ) -> bool
-    ensures { λ r. ⌜ r ≡ all (inLine (words (prefix .entry)) (standsIn (values .entry) (map .entry))
-        (listIn (proof .entry) l)) (listIn (matrix .entry) c) ⌝ }
+    requires { ⌜ Marking (now seen) (listIn matrix c) × Marking (now images) (imagesOf (standsIn values map) (listIn proof l)) ⌝ }
+    ensures { λ r. ⌜ r ≡ literalsFit (words (prefix .entry)) (standsIn (values .entry) (map .entry))
+        (listIn (proof .entry) l) (listIn (matrix .entry) c) ⌝ }
 {
-    let mut images = [0u8; CODES];
-    copies::mark_images(&mut images, values, map, proof, l);
-    each_in_line(&images, prefix, values, map, proof, l, matrix, c)
+    if line_in_clause(seen, prefix, values, map, proof, l, matrix, c) {
+        return each_in_line(images, prefix, values, map, proof, l, matrix, c);
+    }
+    false
 }
 
-// The line's literals stand for the clause's existential ones.
-pub fn literals_fit(
+// The same, with marks for every code of a formula's literal.
+fn fit_seen(
+    seen: &Seen,
+    images: &Seen,
+    prefix: &[i32],
+    values: &[i32],
+    map: &[i32],
+    proof: &[i32],
+    l: usize,
+    matrix: &[i32],
+    c: usize,
+) -> bool
+    requires { ⌜ Marking (now seen) (listIn matrix c) × Marking (now images) (imagesOf (standsIn values map) (listIn proof l)) ⌝ }
+    ensures { λ r. ⌜ r ≡ literalsFit (words (prefix .entry)) (standsIn (values .entry) (map .entry))
+        (listIn (proof .entry) l) (listIn (matrix .entry) c) ⌝ }
+{
+    fit_by(seen, images, prefix, values, map, proof, l, matrix, c)
+}
+
+fn fit_marked(
     prefix: &[i32],
     values: &[i32],
     map: &[i32],
@@ -157,9 +180,29 @@ pub fn literals_fit(
         (listIn (proof .entry) l) (listIn (matrix .entry) c) ⌝ }
 {
     let mut seen = [0u8; CODES];
+    let mut images = [0u8; CODES];
     marks::mark(&mut seen, matrix, c);
-    if line_in_clause(&seen, prefix, values, map, proof, l, matrix, c) {
-        return clause_in_line(prefix, values, map, proof, l, matrix, c);
+    copies::mark_images(&mut images, values, map, proof, l);
+    fit_seen(&seen, &images, prefix, values, map, proof, l, matrix, c)
+}
+
+// The line's literals stand for the clause's existential ones. Short lists are searched without marks.
+pub fn literals_fit(
+    prefix: &[i32],
+    values: &[i32],
+    map: &[i32],
+    proof: &[i32],
+    l: usize,
+    matrix: &[i32],
+    c: usize,
+) -> bool
+    ensures { λ r. ⌜ r ≡ literalsFit (words (prefix .entry)) (standsIn (values .entry) (map .entry))
+        (listIn (proof .entry) l) (listIn (matrix .entry) c) ⌝ }
+{
+    if read::is_short(proof, l) {
+        if read::is_short(matrix, c) {
+            return fit_by(b"", b"", prefix, values, map, proof, l, matrix, c);
+        }
     }
-    false
+    fit_marked(prefix, values, map, proof, l, matrix, c)
 }

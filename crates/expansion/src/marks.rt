@@ -2,7 +2,7 @@
 use crate::read;
 ghost use mathlib.Core.Path.{_≡_};
 ghost use Rattle.rules.specs.Basics.{isIn};
-ghost use Rattle.expansion.specs.Marks.{stamp, marks, Marked};
+ghost use Rattle.expansion.specs.Marks.{stamp, marks, Marking};
 ghost use Rattle.expansion.specs.Codes.{listIn};
 
 // A formula's literals have codes below this.
@@ -51,12 +51,12 @@ pub fn has(t: &[i32], a: usize, y: usize) -> bool
     }
 }
 
-// The same where those codes are marked.
-pub fn marked(seen: &Seen, t: &[i32], a: usize, y: usize) -> bool
-    requires { ⌜ Marked (now seen) (listIn t a) ⌝ }
+// The same where those codes are marked, as far as the marks go.
+pub fn marked(seen: &[u8], t: &[i32], a: usize, y: usize) -> bool
+    requires { ⌜ Marking (now seen) (listIn t a) ⌝ }
     ensures { λ r. ⌜ r ≡ isIn (listIn (t .entry) a) y ⌝ }
 {
-    if y < CODES {
+    if y < seen.len() {
         return seen[y] == 1;
     }
     has(t, a, y)

@@ -24,3 +24,17 @@ pub fn word(t: &[i32], p: usize) -> usize
 {
     cells::wide(prefix::word(t, p))
 }
+
+// Whether a list of codes has fewer than 16.
+pub fn is_short(t: &[i32], a: usize) -> bool {
+    let mut i = a;
+    let mut n: u32 = 16;
+    while 0 < n {
+        n -= 1;
+        if code(t, i) == 0 {
+            return true;
+        }
+        i += 1;
+    }
+    false
+}

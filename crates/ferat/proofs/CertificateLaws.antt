@@ -46,7 +46,7 @@ refuse-below : (m : Places) (s : State) (r : Option ℕ) (step : rules.Step Stat
 refuse-below m s none step a b = b
 refuse-below m s (some n) step a b = a
 
-accept-needs : (l : Limits) (f : Formula) (s : State) (line : CertificateLine) → accept l f s line .needs ≡ s .needs
+accept-needs : (l : Limits) (f : Formula) (s : State) (line : CertificateLine) → accept s line .needs ≡ s .needs
 unfolding accept
 accept-needs l f s (mapping ps es ls) = refl
 accept-needs l f s (hints ns) = refl
@@ -59,11 +59,11 @@ module _ (l : Limits) (f : Formula) (s : State) where
   unfolding judge
   judge-below line =
       refuse-below (s .needs) s (2 unless inSequence s line then 3 unless inRange l f line)
-      (refuseIn (needing s line) (15 unless hasRoom (l .lengths) (needing s line .needs) then kindRules l f (needing s line) line)
-      (rules.next (accept l f (needing s line) line)))
+      (refuseIn (needing s line) (15 unless hasRoom (l .lengths) (needing s line .needs) then kindRules f (needing s line) line)
+      (rules.next (accept (needing s line) line)))
       (below-self (s .needs))
-      (refuse-below (s .needs) (needing s line) (15 unless hasRoom (l .lengths) (needing s line .needs) then kindRules l f (needing s line) line)
-      (rules.next (accept l f (needing s line) line))
+      (refuse-below (s .needs) (needing s line) (15 unless hasRoom (l .lengths) (needing s line .needs) then kindRules f (needing s line) line)
+      (rules.next (accept (needing s line) line))
       (below-together (s .needs) (lineNeeds line))
       (subst (Below (s .needs)) (sym (accept-needs l f (needing s line) line)) (below-together (s .needs) (lineNeeds line))))
 
@@ -102,11 +102,11 @@ module _ (l : Limits) (f : Formula) (s : State) where
   unfolding judge
   judge-counts line =
       refuse-counts s s (2 unless inSequence s line then 3 unless inRange l f line)
-      (refuseIn (needing s line) (15 unless hasRoom (l .lengths) (needing s line .needs) then kindRules l f (needing s line) line)
-      (rules.next (accept l f (needing s line) line)))
+      (refuseIn (needing s line) (15 unless hasRoom (l .lengths) (needing s line .needs) then kindRules f (needing s line) line)
+      (rules.next (accept (needing s line) line)))
       (same-counts s)
-      (refuse-counts s (needing s line) (15 unless hasRoom (l .lengths) (needing s line .needs) then kindRules l f (needing s line) line)
-      (rules.next (accept l f (needing s line) line))
+      (refuse-counts s (needing s line) (15 unless hasRoom (l .lengths) (needing s line .needs) then kindRules f (needing s line) line)
+      (rules.next (accept (needing s line) line))
       (record { expansions = refl; additions = refl; deletions = refl }) tt)
 
   line-counts : (bs : List ℕ) → RefusedIn s (judgeLine l f s bs)
@@ -161,8 +161,8 @@ module _ (bs : List ℕ) (f : Formula) (t : Tables) where
             state = s′;
             shown = d .0;
             rest =
-                sym (ap (λ ls. judgeLines (judgeLine L f) (certificateEnd L f) n ls s) (line-next bs at h l)
-                ∙ ap (λ x. goOn x (judgeLines (judgeLine L f) (certificateEnd L f) (n + 1) (linesOf (drop (e + 1) bs))) n) (sym same-step ∙ k))
+                sym (ap (λ ls. judgeLines (judgeLine L f) certificateEnd n ls s) (line-next bs at h l)
+                ∙ ap (λ x. goOn x (judgeLines (judgeLine L f) certificateEnd (n + 1) (linesOf (drop (e + 1) bs))) n) (sym same-step ∙ k))
                 ∙ g .rest;
             kept = all-then (subst (λ x. Below (s .needs) (stateOf x .needs)) k (line-below (limits (lengthsOf u)) f s line)) (g .kept) (d .1);
             light = omega (arith, d .2, g .light, h);
@@ -175,10 +175,10 @@ module _ (bs : List ℕ) (f : Formula) (t : Tables) where
       going-refused k d = go step refl d
         where
           more : (r : rules.Step State) → step ≡ r → (ls : List (List ℕ)) → linesOf (drop at bs) ≡ line ∷ ls
-              → goOn r (judgeLines (judgeLine L f) (certificateEnd L f) (n + 1) ls) n ≡ readCertificate L f bs
+              → goOn r (judgeLines (judgeLine L f) certificateEnd (n + 1) ls) n ≡ readCertificate L f bs
           more r j ls i =
-              sym (ap (λ x. judgeLines (judgeLine L f) (certificateEnd L f) n x s) i
-              ∙ ap (λ x. goOn x (judgeLines (judgeLine L f) (certificateEnd L f) (n + 1) ls) n) (sym same-step ∙ j))
+              sym (ap (λ x. judgeLines (judgeLine L f) certificateEnd n x s) i
+              ∙ ap (λ x. goOn x (judgeLines (judgeLine L f) certificateEnd (n + 1) ls) n) (sym same-step ∙ j))
               ∙ g .rest
 
           go : (r : rules.Step State) → step ≡ r → Stepped f p (e - at) u r (Refuse k) v x → EndedAs t (readCertificate L f bs) (Refused k n (p .counts)) v
@@ -206,8 +206,8 @@ module _ (bs : List ℕ) (f : Formula) (t : Tables) where
           go (rules.next s′) j d =
               subst (λ y. EndedAs t y (endedBy k (q .counts)) v)
               (ap (λ o. goOn (refuseIn s′ o (rules.next s′)) rules.ended 0) (ap numbered i ∙ sym (end-is (d .0) L))
-              ∙ sym (ap (λ ls. judgeLines (judgeLine L f) (certificateEnd L f) n ls s) (line-last bs at h l)
-              ∙ ap (λ x. goOn x (judgeLines (judgeLine L f) (certificateEnd L f) (n + 1) []) n) (sym same-step ∙ j))
+              ∙ sym (ap (λ ls. judgeLines (judgeLine L f) certificateEnd n ls s) (line-last bs at h l)
+              ∙ ap (λ x. goOn x (judgeLines (judgeLine L f) certificateEnd (n + 1) []) n) (sym same-step ∙ j))
               ∙ g .rest)
               (by s′ (d .0) (all-then (subst (λ x. Below (s .needs) (stateOf x .needs)) j (line-below (limits (lengthsOf u)) f s line)) (g .kept) (d .1)) (eqb k 0) refl)
           go (rules.refuse m s′) j d = absurd d

@@ -17,9 +17,10 @@ use Rattle.rules.specs.Step as rules
 use Rattle.rules.specs.Step.{refuseIn, goOn, judgeLines, judgeFile}
 use Rattle.rules.specs.FormulaLines.{readFormula}
 use Rattle.rules.specs.CertificateLines.{State, start, certificateEnd, readCertificate}
-use Rattle.rules.specs.Verdict.{Checked, early, ofCertificate, ofFormula, check}
+use Rattle.rules.specs.Verdict.{Checked, early, ofCertificate, ofFormula, check, Ranged}
 use Rattle.rules.specs.declared.Verdict.the-variants.{Accepted, Refused}
 use Rattle.rules.specs.declared.Report.{Report}
+use Rattle.rules.proofs.Ranges.{check-ranged}
 use Rattle.formula.specs.declared.Reading.{Reading}
 use Rattle.formula.specs.declared.Answer.{Answer}
 use Rattle.formula.specs.declared.Answer.the-variants as answer
@@ -54,9 +55,9 @@ below-then x y = record {
 }
 
 module _ (l : Limits) (f : Formula) where
-  lines-below : (ls : List (List ℕ)) (n : ℕ) (s : State) → Below (s .needs) (readState (judgeLines (judgeLine l f) (certificateEnd l f) n ls s) .needs)
+  lines-below : (ls : List (List ℕ)) (n : ℕ) (s : State) → Below (s .needs) (readState (judgeLines (judgeLine l f) certificateEnd n ls s) .needs)
   unfolding judgeLines
-  lines-below [] n s = go (certificateEnd l f s)
+  lines-below [] n s = go (certificateEnd s)
     where
       go : (r : Option ℕ) → Below (s .needs) (readState (goOn (refuseIn s r (rules.next s)) rules.ended 0) .needs)
       go none = below-self (s .needs)
@@ -64,8 +65,8 @@ module _ (l : Limits) (f : Formula) where
   lines-below (x ∷ ls) n s = go (judgeLine l f s x) (line-below l f s x) (λ s′. lines-below ls (n + 1) s′)
     where
       go : (r : rules.Step State) → Below (s .needs) (stateOf r .needs)
-          → ((s′ : State) → Below (s′ .needs) (readState (judgeLines (judgeLine l f) (certificateEnd l f) (n + 1) ls s′) .needs))
-          → Below (s .needs) (readState (goOn r (judgeLines (judgeLine l f) (certificateEnd l f) (n + 1) ls) n) .needs)
+          → ((s′ : State) → Below (s′ .needs) (readState (judgeLines (judgeLine l f) certificateEnd (n + 1) ls s′) .needs))
+          → Below (s .needs) (readState (goOn r (judgeLines (judgeLine l f) certificateEnd (n + 1) ls) n) .needs)
       go (rules.next s′) b h = below-then b (h s′)
       go (rules.refuse k s′) b h = b
 
@@ -100,10 +101,13 @@ module _ (bs cs : List ℕ) (t : Tables) where
   told : (r : Report) (u : Tables) (a b : Bool) → leb (length bs) 1048576 ≡ a → leb (length cs) 1048576 ≡ b
       → r ≡ outer a b .report → KeptAll (outer a b .needs) t u → CheckedIn bs cs t r u
   unfolding check
-  told r u a b p q h k = record {
-    report = h ∙ sym (ap (λ z. outer z b .report) p) ∙ sym (ap (λ z. outer (leb (length bs) 1048576) z .report) q);
-    kept = subst (λ z. KeptAll (outer (leb (length bs) 1048576) z .needs) t u) (sym q) (subst (λ z. KeptAll (outer z b .needs) t u) (sym p) k);
-  }
+  told r u a b p q h k =
+      let e : r ≡ check L bs cs .report = h ∙ sym (ap (λ z. outer z b .report) p) ∙ sym (ap (λ z. outer (leb (length bs) 1048576) z .report) q) in
+      record {
+        report = e;
+        ranged = subst (λ (z : Report). Ranged bs cs (z .verdict)) (sym e) (check-ranged L bs cs);
+        kept = subst (λ z. KeptAll (outer (leb (length bs) 1048576) z .needs) t u) (sym q) (subst (λ z. KeptAll (outer z b .needs) t u) (sym p) k);
+      }
 
   -- "1 overlong", of the formula and of the certificate
   pub overlong-formula : 1048576 < length bs → (r : Report) → r ≡ refusedEarly 1 1 0 → CheckedIn bs cs t r t
@@ -138,7 +142,7 @@ module _ (bs cs : List ℕ) (t : Tables) where
           go : (x : rules.Read (Option Formula)) → Answers x (t .prefix) (t .matrix) (answer.Refused k line) p m
               → (refusedEarly k 1 line ≡ ofFormula x (λ f. ofCertificate (readCertificate L f cs)) .report)
               × KeptAll (ofFormula x (λ f. ofCertificate (readCertificate L f cs)) .needs) t read
-          go (rules.ended none) o = absurd (o .answer)
+          go (rules.ended none) o = ((λ j. refusedEarly (o .answer .0 j) 1 (o .answer .1 j)), kept (places 0 0 0 0 0 0) (o .prefix) (o .matrix))
           go (rules.ended (some f)) o = absurd (o .answer)
           go (rules.refusedAt n i s) o = ((λ j. refusedEarly (o .answer .0 j) 1 (o .answer .1 j)), kept (formulaNeedsSoFar s) (o .prefix) (o .matrix))
 

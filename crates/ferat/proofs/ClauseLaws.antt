@@ -76,7 +76,7 @@ stepped-later f p n t t₁ (rules.refuse j s) (Refuse i) u v m e k h =
 pub record ClauseKind (kind : Lits → CertificateLine) : Type 0 where
   pub adds : Adds kind
   pub range : (l : Places) (f : Formula) (c : Lits) → inRange (limits l) f (kind c) ≡ all (λ v. leb v 16384) (vars c)
-  pub needs : (l : Places) (f : Formula) (s : State) (c : Lits) → accept (limits l) f s (kind c) .needs ≡ s .needs
+  pub needs : (l : Places) (f : Formula) (s : State) (c : Lits) → accept s (kind c) .needs ≡ s .needs
 
 pub expansions : ClauseKind expansion
 unfolding inRange accept
@@ -213,14 +213,14 @@ module _ {kind : Lits → CertificateLine} (kk : ClauseKind kind) (bs : List ℕ
           kept = let a = all-self (needsWith p n m) t in
               record { prefix = a .prefix; matrix = a .matrix; map = a .map; proof = there .kept; marks = a .marks; values = a .values }
 
-          ends : stateOf (kindJudge (limits (lengthsOf t)) f s (kind c)) .needs ≡ needsWith p n m
-          ends = go (kindRules (limits (lengthsOf t)) f (needing s (kind c)) (kind c)) ∙ needed sh (passed .range)
+          ends : stateOf (kindJudge f s (kind c)) .needs ≡ needsWith p n m
+          ends = go (kindRules f (needing s (kind c)) (kind c)) ∙ needed sh (passed .range)
             where
-              go : (o : Option ℕ) → stateOf (refuseIn (needing s (kind c)) o (rules.next (accept (limits (lengthsOf t)) f (needing s (kind c)) (kind c)))) .needs ≡ needing s (kind c) .needs
+              go : (o : Option ℕ) → stateOf (refuseIn (needing s (kind c)) o (rules.next (accept (needing s (kind c)) (kind c)))) .needs ≡ needing s (kind c) .needs
               go none = kk .needs (lengthsOf t) f (needing s (kind c)) c
               go (some i) = refl
 
-          rest : judge (limits (lengthsOf t)) f s (kind c) ≡ kindJudge (limits (lengthsOf t)) f s (kind c)
+          rest : judge (limits (lengthsOf t)) f s (kind c) ≡ kindJudge f s (kind c)
           rest =
               judge-rest (limits (lengthsOf t)) f s (kind c) (turn f s sh) (low f (passed .range))
               (ap (fits (lengthsOf t)) (needed sh (passed .range)) ∙ clause-room sh n m (passed .proof) (passed .marks) (passed .values))
@@ -229,7 +229,7 @@ module _ {kind : Lits → CertificateLine} (kk : ClauseKind kind) (bs : List ℕ
         clause-judged {r} {u} {v} j = record {
           steps = λ f s sh l.
               subst (λ x. Stepped f p (length bs) t x r u v) (sym (judged-line f s (rest sh)))
-              (stepped-later f p (length bs) t t₁ (kindJudge (limits (lengthsOf t)) f s (kind c)) r u v (needsWith p n m) (ends sh) (kept sh)
-              (subst (λ i. Stepped f p (length bs) t₁ (kindJudge (limits i) f s (kind c)) r u v) (same sh)
+              (stepped-later f p (length bs) t t₁ (kindJudge f s (kind c)) r u v (needsWith p n m) (ends sh) (kept sh)
+              (subst (λ i. Stepped f p (length bs) t₁ (kindJudge f s (kind c)) r u v) (same sh)
               (j .steps c (length bs) f s (pending sh) (stored-shown sh) l (count-low seen))));
         }

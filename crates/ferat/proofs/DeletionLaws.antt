@@ -11,11 +11,11 @@ use Rattle.lines.specs.Scan.{literalAt}
 use Rattle.lines.specs.declared.Literal.{Literal}
 use Rattle.cells.specs.Cells.{upTo}
 use Rattle.lists.specs.declared.Clause.{Clause}
-use Rattle.lists.specs.Lists.{litsAt, clauseAt}
+use Rattle.lists.specs.Lists.{litsAt, isList, clauseAt}
 use Rattle.lists.specs.Stores.{codesAt, written, inRange}
-use Rattle.lists.proofs.ListLaws.{all-low, listed-low, listed-high, listed-range}
+use Rattle.lists.proofs.ListLaws.{all-low, listing-list, listed-low, listed-high, listed-range}
 use Rattle.lists.proofs.FormLaws.{Seen, clause-told, as-clause, bad-clause}
-use Rattle.lists.proofs.StoreLaws.{codes-lost, codes-end, codes-more, codes-listed}
+use Rattle.lists.proofs.StoreLaws.{codes-end, codes-more, codes-listed}
 use Rattle.rules.specs.Basics.{greatest, isIn}
 use Rattle.rules.specs.Literals.{Lit, Lits, var, vars}
 use Rattle.rules.specs.Formula.{Formula}
@@ -26,10 +26,10 @@ use Rattle.rules.specs.Step as rules
 use Rattle.rules.specs.Codes.{sign, codeOf}
 use Rattle.rules.specs.CertificateLines.{State, inSequence, judge}
 use Rattle.rules.specs.CertificateLines as lines
-use Rattle.rules.proofs.Kit.{and-l, and-r}
+use Rattle.rules.proofs.Kit.{and-l, and-r, clear}
 use Rattle.tables.specs.Tables.{Tables, lengthsOf}
 use Rattle.tables.proofs.Frames.{all-self}
-use Rattle.propagation.specs.Trail.{Trailed, Undone}
+use Rattle.trail.specs.Trail.{Trailed, Undone}
 use Rattle.redundancy.specs.Deletions.{Listed, MoreBy}
 use Rattle.redundancy.proofs.DeletionLaws.{listed-start}
 use Rattle.steps.specs.declared.Progress.{Progress}
@@ -39,18 +39,12 @@ use Rattle.steps.specs.Shown.{Work, work, Shown, Stepped}
 use Rattle.steps.specs.Judges.{kindJudge, Listing, Deletes}
 use Rattle.steps.proofs.JudgeLaws.{judge-range, judge-rest, refused-in}
 use Rattle.steps.proofs.DeleteLaws.{deletion-needs}
-use Rattle.ferat.specs.Lines.{judged, Line, lineCodes, LineListed}
+use Rattle.ferat.specs.declared.deletion_lines.LineList.{LineList}
+use Rattle.ferat.specs.Lines.{judged, Line, lineCodes, LineListed, ListedBy}
 use Rattle.ferat.proofs.ClauseLaws.{judged-none, judged-some, count-low}
 
 -- THE CODES OF THE LINE, one after the other
 module _ (bs : List ℕ) (i : ℕ) where
-  codes-stop : codesAt bs i ≡ [] → lineCodes bs i ≡ []
-  unfolding lineCodes upTo
-  codes-stop e = ap (λ l. map (λ k. k % 65536) (upTo l)) e
-
-  pub line-lost : literalAt bs i ≡ Literal.Bad → lineCodes bs i ≡ []
-  line-lost h = codes-stop (codes-lost bs i h)
-
   module _ {x e : ℕ} (h : literalAt bs i ≡ Literal.Of x e) where
     pub line-end : x ≡ 0 → lineCodes bs i ≡ []
     unfolding lineCodes upTo
@@ -96,6 +90,14 @@ module _ (bs : List ℕ) (at : ℕ) where
         ap (λ b. b || isIn (lineCodes bs e) x) (m x) ∙ or-move (isIn (take n t) x) (eqb x l) (isIn (lineCodes bs e) x)
         ∙ ap (λ c. isIn (take n t) x || isIn c x) (sym q) ∙ g .left x;
   }
+
+-- the answer
+pub listed-all : (bs : List ℕ) (at : ℕ) {f t : List ℕ} {r : LineList} {n : ℕ} → r ≡ LineList.All n → ListedBy bs at f t r → LineListed bs at f t n
+listed-all bs at {f} {t} e h = subst (ListedBy bs at f t) e h
+
+-- a line that the first pass has read is a list
+pub deletion-ended : (bs : List ℕ) (at : ℕ) {s n m : ℕ} → clauseAt bs at ≡ Clause.Good s n m → isList bs at ≡ false → ⊥
+deletion-ended bs at h e = clear (listing-list bs at (clause-told bs at h .listing)) e
 
 -- a list of codes and its end mark
 code-large : (n : ℕ) (l : Lit) → (leb 1 (var l) && leb (var l) n) ≡ true → codeOf l ≡ 0 → ⊥
@@ -173,7 +175,7 @@ module _ (bs : List ℕ) (at : ℕ) (p : Progress) (t : Tables) (w : Work) where
         there : Listing c f₁ t₁ k
         there = record { listed = listed .listed; same = λ x. listed .same x ∙ ap (λ l. isIn l x) codes-are }
 
-        rest : judge (limits (lengthsOf t)) f s (deletion c) ≡ kindJudge (limits (lengthsOf t)) f s (deletion c)
+        rest : judge (limits (lengthsOf t)) f s (deletion c) ≡ kindJudge f s (deletion c)
         rest = judge-rest (limits (lengthsOf t)) f s (deletion c) (order s) (low f l) (ap (fits (lengthsOf t)) (deletion-needs sh c) ∙ sh .room)
 
       pub deletion-judged : Line (clauseForm deletion) bs at p t w r u v

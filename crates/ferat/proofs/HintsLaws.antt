@@ -29,7 +29,7 @@ use Rattle.tables.proofs.Frames.{all-self}
 use Rattle.tables.proofs.Rooms.{fits-room, room-fits, no-room, places-same}
 use Rattle.clauses.specs.Standing.{standing, placesOf, literals, proofNeed, marksNeed, emptyAbove}
 use Rattle.clauses.proofs.StoreLaws.{filled-hints, need-above, standing-above}
-use Rattle.propagation.specs.Trail.{Held}
+use Rattle.propagation.specs.Answers.{Held}
 use Rattle.steps.specs.declared.Progress.{Progress}
 use Rattle.steps.specs.declared.Step.the-variants.{Next, Refuse}
 use Rattle.steps.specs.Order.{noHints}
@@ -137,7 +137,7 @@ module _ (bs : List ℕ) (at : ℕ) (p : Progress) (t : Tables) (w : Work) where
                     values = r .values;
                   }
 
-              accepted : judged hintsForm bs at t f s ≡ rules.next (accept (limits (lengthsOf t)) f (needing s (hints ns)) (hints ns))
+              accepted : judged hintsForm bs at t f s ≡ rules.next (accept (needing s (hints ns)) (hints ns))
               unfolding kindRules
               accepted =
                   judged-line f s (judge-rest (limits (lengthsOf t)) f s (hints ns) (order sh ∙ y) (low sh) (ap (fits (lengthsOf t)) (needed sh) ∙ room)
@@ -156,7 +156,7 @@ module _ (bs : List ℕ) (at : ℕ) (p : Progress) (t : Tables) (w : Work) where
               needs-after : needsOf after ≡ wanted
               needs-after = let a = need-above (n + 1) in places-same refl refl refl (a .0) (a .1) refl
 
-              shown : Shown after v w f (accept (limits (lengthsOf t)) f (needing s (hints ns)) (hints ns))
+              shown : Shown after v w f (accept (needing s (hints ns)) (hints ns))
               unfolding accept
               shown = record {
                 formula = sh .formula;

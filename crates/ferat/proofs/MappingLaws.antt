@@ -19,7 +19,7 @@ use Rattle.rules.specs.Literals.{Lits, vars}
 use Rattle.rules.specs.Formula.{Formula}
 use Rattle.rules.specs.Forms.{CertificateLine, mapping, mappingForm}
 use Rattle.rules.specs.Needs.{Places, places, fits, lineNeeds, together}
-use Rattle.rules.specs.Limits.{limits, allows}
+use Rattle.rules.specs.Limits.{allows}
 use Rattle.rules.specs.FormulaLines.{upToV}
 use Rattle.rules.specs.Expansion.{copies, mappingRules}
 use Rattle.rules.specs.Step as rules
@@ -87,7 +87,7 @@ module _ (bs : List ℕ) (at : ℕ) (p : Progress) (t : Tables) (w : Work) (turn
     m = after (p .mapped) ps es ls
 
     abbrev copied : State
-    copied = accept (limits (lengthsOf t)) f (needing s line) line
+    copied = accept (needing s line) line
 
     needed : needing s line .needs ≡ needsOf (mappedIn p m)
     unfolding together lineNeeds

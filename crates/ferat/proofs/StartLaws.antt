@@ -24,7 +24,8 @@ use Rattle.expansion.specs.Index.{Indexed, indexOf}
 use Rattle.expansion.proofs.IndexLaws.{clauses-indexed}
 use Rattle.clauses.specs.Standing.{standing, placesOf, literals, emptyAbove}
 use Rattle.clauses.proofs.StoreLaws.{filled-above, need-above, standing-above}
-use Rattle.propagation.proofs.TrailLaws.{ready-start, held-empty}
+use Rattle.trail.proofs.TrailLaws.{ready-start}
+use Rattle.propagation.proofs.MoveLaws.{held-empty}
 use Rattle.steps.specs.Shown.{work, needsOf, Shown, weight}
 use Rattle.ferat.specs.Check.{begun}
 

@@ -51,7 +51,7 @@ pub record Going (bs : List ℕ) (f : Formula) (t : Tables) (at n : ℕ) (p : Pr
   pub state : State
   pub shown : Shown p u w f state
   pub rest
-      : judgeLines (judgeLine (limits (lengthsOf t)) f) (certificateEnd (limits (lengthsOf t)) f) n (linesOf (drop at bs)) state
+      : judgeLines (judgeLine (limits (lengthsOf t)) f) certificateEnd n (linesOf (drop at bs)) state
       ≡ readCertificate (limits (lengthsOf t)) f bs
   pub kept : KeptAll (state .needs) t u
   pub light : weight p ≤ 3 * at

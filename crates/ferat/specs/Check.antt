@@ -7,7 +7,7 @@ use lib.ListN.{length}
 use Rattle.rules.specs.Formula.{Formula}
 use Rattle.rules.specs.Limits.{limits}
 use Rattle.rules.specs.CertificateLines.{readCertificate}
-use Rattle.rules.specs.Verdict.{check}
+use Rattle.rules.specs.Verdict.{check, Ranged}
 use Rattle.rules.specs.declared.Verdict.the-variants.{Accepted, Refused}
 use Rattle.rules.specs.declared.Report.{Report}
 use Rattle.tables.specs.Tables.{Tables, lengthsOf}
@@ -21,9 +21,9 @@ use Rattle.ferat.specs.declared.certificate.Ended.{Ended}
 use Rattle.ferat.specs.declared.certificate.Ended.the-variants as end-of
 use Rattle.ferat.specs.Certificate.{EndedAs}
 
--- THE PROMISE OF A CHECK of two files, t being the tables before and u after: `CheckedBy` with the FERAT rules
+-- THE PROMISE OF A CHECK of two files, t being the tables before and u after: `CheckedBy` with the FERAT rules and their range
 abbrev pub CheckedIn : List ℕ → List ℕ → Tables → Report → Tables → Type 0
-CheckedIn = CheckedBy check
+CheckedIn = CheckedBy check Ranged
 
 -- WITHIN THE CRATE: nothing of the certificate is read yet
 abbrev pub begunWith : Reading → Store → Progress

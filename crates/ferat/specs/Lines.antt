@@ -25,6 +25,7 @@ use Rattle.redundancy.specs.Deletions.{Listed}
 use Rattle.steps.specs.declared.Progress.{Progress}
 use Rattle.steps.specs.declared.Step.{Step}
 use Rattle.steps.specs.Shown.{Work, work, Shown, Light, Stepped}
+use Rattle.ferat.specs.declared.deletion_lines.LineList.{LineList}
 
 -- the rules' answer to what stands in the line from a place on, read by the form
 unfoldable pub judged : (List Token → Option CertificateLine) → List ℕ → ℕ → Tables → Formula → State → rules.Step State
@@ -81,3 +82,8 @@ lineCodes bs at = map (λ k. k % 65536) (upTo (codesAt bs at))
 pub record LineListed (bs : List ℕ) (at : ℕ) (f t : List ℕ) (n : ℕ) : Type 0 where
   pub listed : Listed f t n
   pub same : (x : ℕ) → isIn (take n t) x ≡ isIn (lineCodes bs at) x
+
+-- whichever the answer is
+abbrev pub ListedBy : List ℕ → ℕ → List ℕ → List ℕ → LineList → Type 0
+ListedBy bs at f t (LineList.All n) = LineListed bs at f t n
+ListedBy bs at f t LineList.Bad = Unit {0}

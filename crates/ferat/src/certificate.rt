@@ -16,11 +16,11 @@ use expansion::Starts;
 use lines::Run;
 use mapping::Noted;
 use propagation::Watches;
-use propagation::trail::Falses;
-use propagation::trail::Trail;
 use steps::Counts;
 use steps::Progress;
 use steps::Step;
+use trail::Falses;
+use trail::Trail;
 
 // How the reading of the certificate ends: closed, or refused with a number and a line; and the lines accepted.
 pub enum Ended {

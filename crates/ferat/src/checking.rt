@@ -61,7 +61,7 @@ fn check_certificate(
     let mut noted = [0; 16385];
     let mut falses = [0; 65536];
     let mut trail = [0; 65536];
-    let mut watches = [0; 327680];
+    let mut watches = [propagation::END; 458752];
     expansion::index_clauses(matrix, r.used, &mut starts);
     read_certificate(
         certificate,

@@ -6,12 +6,13 @@ ghost use Rattle.steps.specs.Judges.{beside};
 ghost use Rattle.ferat.specs.Lines.{Line, withThree};
 use expansion::Starts;
 use lists::Clause;
+use lists::Ending;
 use mapping::Noted;
 use propagation::Watches;
-use propagation::trail::Falses;
-use propagation::trail::Trail;
 use steps::Progress;
 use steps::Step;
+use trail::Falses;
+use trail::Trail;
 
 // `e` literals `0`, from the place after the letter on.
 pub fn expansion_line(
@@ -46,7 +47,9 @@ pub fn expansion_line(
         if k != 0 {
             return Step::Refuse(k);
         }
-        clauses::store_line(line, at, proof, store);
+        let Ending::Zero = clauses::store_line(line, at, proof, store) else {
+            return Step::Refuse(2);
+        };
         return steps::expand(
             p,
             n,
@@ -90,6 +93,8 @@ pub fn addition_line(
     if k != 0 {
         return Step::Refuse(k);
     }
-    clauses::store_line(line, 0, proof, store);
+    let Ending::Zero = clauses::store_line(line, 0, proof, store) else {
+        return Step::Refuse(2);
+    };
     steps::add(p, n, m, proof, marks, falses, trail, watches)
 }

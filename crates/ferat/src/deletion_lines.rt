@@ -1,30 +1,41 @@
 // The deletion line.
+ghost use mathlib.Core.Path.{_≡_};
+ghost use mathlib.Core.Bool.{false};
+ghost use Rattle.lists.specs.Lists.{isList};
 ghost use Rattle.rules.specs.Forms.{clauseForm, deletion};
 ghost use Rattle.tables.specs.Tables.{Tables};
 ghost use Rattle.steps.specs.Shown.{Work};
 ghost use Rattle.steps.specs.Judges.{among, beside};
 ghost use Rattle.redundancy.specs.Deletions.{Listed};
-ghost use Rattle.ferat.specs.Lines.{Line, LineListed};
+ghost use Rattle.ferat.specs.declared.deletion_lines.LineList.{LineList};
+ghost use Rattle.ferat.specs.Lines.{Line, ListedBy};
 use lines::Literal;
 use lists::Clause;
-use propagation::trail::Falses;
-use propagation::trail::Trail;
 use steps::Progress;
 use steps::Step;
+use trail::Falses;
+use trail::Trail;
 
-// Puts the line's literals from a place on onto the empty trail, each once; the trail's length.
-fn list_line(line: &[u8], at: usize, falses: &mut Falses, trail: &mut Trail) -> usize
+// The literals of a line are listed, with the trail's length; or a token is no literal.
+pub enum LineList {
+    All(usize),
+    Bad,
+}
+
+// Puts the line's literals from a place on onto the empty trail, each once.
+fn list_line(line: &[u8], at: usize, falses: &mut Falses, trail: &mut Trail) -> LineList
     ensures { λ r. ⌜ (Listed (now (falses .entry)) (now (trail .entry)) 0
-        → LineListed (now (line .entry)) at (now (falses .exit)) (now (trail .exit)) r) ⌝ }
+        → ListedBy (now (line .entry)) at (now (falses .exit)) (now (trail .exit)) r)
+        × (r ≡ LineList.Bad → isList (now (line .entry)) at ≡ false) ⌝ }
 {
     let mut i = at;
     let mut n: usize = 0;
     loop {
         let Literal::Of(x, e) = lines::literal_at(line, i) else {
-            return n;
+            return LineList::Bad;
         };
         if x == 0 {
-            return n;
+            return LineList::All(n);
         }
         n = redundancy::deletion::list_literal(falses, trail, n, x % 65536);
         i = e;
@@ -51,7 +62,9 @@ pub fn deletion_line(
     if 16384 < m {
         return Step::Refuse(3);
     }
-    propagation::trail::undo(falses, trail, p.units.n, 0);
-    let n = list_line(line, at, falses, trail);
+    trail::undo(falses, trail, p.units.n, 0);
+    let LineList::All(n) = list_line(line, at, falses, trail) else {
+        return Step::Refuse(2);
+    };
     steps::delete(p, n, proof, marks, falses, trail)
 }

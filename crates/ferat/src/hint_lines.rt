@@ -5,6 +5,7 @@ ghost use Rattle.tables.specs.Tables.{Tables};
 ghost use Rattle.steps.specs.Shown.{Work};
 ghost use Rattle.ferat.specs.Lines.{Line, hintedIn, withProof};
 use lists::Clause;
+use lists::Ending;
 use steps::Hinted;
 use steps::Progress;
 use steps::Step;
@@ -48,7 +49,9 @@ pub fn hints_line(line: &[u8], at: usize, p: Progress, proof: &mut [i32]) -> Ste
         if proof.len() <= n {
             return Step::Refuse(15);
         }
-        lists::store_list(line, at, proof, 0);
+        let Ending::Zero = lists::store_list(line, at, proof, 0) else {
+            return Step::Refuse(2);
+        };
         return Step::Next(with_hints(p, n));
     }
     Step::Refuse(2)

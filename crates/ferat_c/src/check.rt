@@ -2,7 +2,7 @@
 ghost use Rattle.tables.specs.Tables.{six};
 ghost use Rattle.ferat_c.specs.Numbers.{CheckedNumbers};
 
-// THE CHECK, its seven fields as numbers: the word as 0 (accepted) or 1 (refused), number, file, line, and the three counts.
+// THE CHECK, its seven fields as numbers: the word as 1 (accepted) or 2 (refused), number, file, line, and the three counts.
 #[no_mangle]
 pub extern "C" fn hutsvida_check(
     formula: &[u8],

@@ -1,6 +1,6 @@
 -- Laws of a prefix line. Assumes nothing.
 use mathlib.Core.Path.{_≡_, refl, ap, ap₂, sym, _∙_, subst}
-use mathlib.Core.Bool.{Bool, true, false, _&&_}
+use mathlib.Core.Bool.{Bool, true, false, _&&_, false≢true}
 use mathlib.Core.List.{List, [], _∷_, _++_, map}
 use mathlib.Core.Option.{Option, none, some}
 use Prim.Native.Nat.{ℕ, _+_, _<_, _≤_}
@@ -23,7 +23,7 @@ use Rattle.rules.specs.FormulaLines.{judgeFormula, upToV, withBound}
 use Rattle.lists.specs.declared.Clause.{Clause}
 use Rattle.lists.specs.Lists.{clauseAt, litsAt}
 use Rattle.lists.specs.Stores.{codesAt, inRange}
-use Rattle.lists.proofs.ListLaws.{all-low, listed-low, listed-high, listed-range}
+use Rattle.lists.proofs.ListLaws.{listing-list, all-low, listed-low, listed-high, listed-range}
 use Rattle.lists.proofs.FormLaws.{empty-length, Seen, clause-told, as-binding, not-binding, empty-binding, bad-binding}
 use Rattle.lists.proofs.StoreLaws.{codes-listed}
 use Rattle.prefix.specs.Prefix.{Shows}
@@ -31,7 +31,7 @@ use Rattle.formula.specs.declared.Marked.{Marked}
 use Rattle.formula.specs.declared.Reading.{Reading}
 use Rattle.formula.specs.declared.State.{State}
 use Rattle.formula.specs.declared.Outcome.{Outcome}
-use Rattle.formula.specs.Tables.{Pass, pass, Few, Marks}
+use Rattle.formula.specs.Tables.{Pass, pass, Tells, Marks}
 use Rattle.formula.specs.Holds.{Holds, proper}
 use Rattle.formula.specs.Judged.{quantifier, byForm, bindingJudge, LineRead}
 use Rattle.formula.proofs.Steps.{refused, accepted, read-within, untouched, prefix-need, all-append}
@@ -94,7 +94,7 @@ module _ (bs : List ℕ) (at q : ℕ) (r : Reading) (p m : List ℤ) where
           binding-high i = untouched (bindingJudge bs at q) (length bs) p m r some (λ l f o k.
               first l f k (lt-leb (greatest (vars (litsAt bs at))) (f .highest) (let w = listed-high (seen .listing) i in omega (arith, k .highest))))
 
-          module _ (i : g ≤ r .v) (least : 1 ≤ q) (most : q ≤ 2) {t : Marked} {u : List ℤ} (a : Marks q (r .bound) (length bs) (codesAt bs at) p t u) where
+          module _ (i : g ≤ r .v) (least : 1 ≤ q) (most : q ≤ 2) {t : Marked} {u : List ℤ} (a : Marks q (r .bound) bs at p t u) where
             second : (l : Places) (f : Formula) → Holds r p m f → {b : Bool} → fresh (bound f) (vars (litsAt bs at)) ≡ b
                 → bindingJudge bs at q l (some f) ≡ three f (withBound f (map (quantifier q) (vars (litsAt bs at)))) true true (b && true)
             second l f k e =
@@ -113,6 +113,10 @@ module _ (bs : List ℕ) (at q : ℕ) (r : Reading) (p m : List ℤ) where
                 let e : r .v ≡ formulaNeeds f .prefix = k .highest ∙ sym (prefix-need f) in
                 subst (λ n. Kept n p u) e (subst (Kept (r .v) p) (sym (a .table)) (passed f k .kept))
 
+            -- the second pass meets no bad token: the first met none
+            pub binding-never : t ≡ Marked.Bad → LineRead (bindingJudge bs at q) (State.Within r) (length bs) p m (Outcome.Refuse 2) u m
+            binding-never w = absurd (false≢true (sym (subst (Tells bs at (r .bound)) w (a .tells)) ∙ listing-list bs at (seen .listing)))
+
             pub binding-twice : t ≡ Marked.Twice → LineRead (bindingJudge bs at q) (State.Within r) (length bs) p m (Outcome.Refuse 4) u m
             binding-twice w = read-within (bindingJudge bs at q) (length bs) p m r (λ l f o k.
                 refused (second l f k (twice-fresh (fresh (bound f) (vars (litsAt bs at))) (pass q (r .bound) (codesAt bs at) p) (r .v) (r .bound + length (litsAt bs at)) (f .prefix ++ map (quantifier q) (vars (litsAt bs at))) (passed f k .says) (sym (a .answer) ∙ w)))
@@ -122,7 +126,7 @@ module _ (bs : List ℕ) (at q : ℕ) (r : Reading) (p m : List ℤ) where
                 → LineRead (bindingJudge bs at q) (State.Within r) (length bs) p m (Outcome.Next (State.Within (record { v = r .v; c = r .c; bound = j; clauses = r .clauses; used = r .used }))) u m
             unfolding formulaNeeds
             binding-done {j} w = read-within (bindingJudge bs at q) (length bs) p m r (λ l f o k.
-                accepted (second l f k (fact f k .0)) (holds f k) (kept f k) (kept-self (formulaNeeds f .matrix) m)) (subst (Few (r .bound + length bs)) w (a .few))
+                accepted (second l f k (fact f k .0)) (holds f k) (kept f k) (kept-self (formulaNeeds f .matrix) m)) (subst (Tells bs at (r .bound)) w (a .tells) .1)
               where
                 fact : (f : Formula) → Holds r p m f → (fresh (bound f) (vars (litsAt bs at)) ≡ true) × (j ≡ r .bound + length (litsAt bs at)) × Shows (pass q (r .bound) (codesAt bs at) p .table) (r .v) (f .prefix ++ map (quantifier q) (vars (litsAt bs at)))
                 fact f k = done-fresh (fresh (bound f) (vars (litsAt bs at))) (pass q (r .bound) (codesAt bs at) p) (r .v) j (r .bound + length (litsAt bs at)) (f .prefix ++ map (quantifier q) (vars (litsAt bs at))) (passed f k .says) (sym (a .answer) ∙ w)

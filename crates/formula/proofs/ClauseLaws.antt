@@ -1,6 +1,6 @@
 -- Laws of a clause line. Assumes nothing.
 use mathlib.Core.Path.{_≡_, ap, ap₂, sym, _∙_, subst}
-use mathlib.Core.Bool.{Bool, true, false, _&&_}
+use mathlib.Core.Bool.{Bool, true, false, _&&_, cond}
 use mathlib.Core.List.{List, [], _∷_, _++_}
 use mathlib.Core.Option.{Option, some}
 use Prim.Native.Nat.{ℕ, _+_, _-_, _<_, _≤_}
@@ -21,9 +21,10 @@ use Rattle.rules.specs.Step.{Step, next, refuseIn, _unless_, _then_}
 use Rattle.rules.specs.FormulaLines.{judgeFormula, withClause}
 use Rattle.rules.proofs.Kit.{and-i}
 use Rattle.lists.specs.declared.Clause.{Clause}
+use Rattle.lists.specs.declared.Ending.{Ending}
 use Rattle.lists.specs.Lists.{clauseAt, litsAt}
-use Rattle.lists.specs.Stores.{codesAt, puts, written, inRange}
-use Rattle.lists.proofs.ListLaws.{all-low, listed-low, listed-high, listed-range}
+use Rattle.lists.specs.Stores.{codesAt, endingAt, puts, written, inRange}
+use Rattle.lists.proofs.ListLaws.{listing-list, all-low, listed-low, listed-high, listed-range}
 use Rattle.lists.proofs.FormLaws.{Seen, clause-told, as-clause, bad-clause}
 use Rattle.lists.proofs.StoreLaws.{Stored, list-in-table, flat-snoc}
 use Rattle.formula.specs.declared.Reading.{Reading}
@@ -55,6 +56,11 @@ module _ (bs : List ℕ) (r : Reading) (p m : List ℤ) where
         ap (λ x. byForm x l (some f)) (as-clause bs 0 seen clause)
         ∙ ap₂ (λ a b. four f (withClause f (litsAt bs 0)) a b (all (isIn (bound f)) (vars (litsAt bs 0))) (leb (length (f .matrix) + 1) (f .count)))
         (all-low (f .highest) (vars (litsAt bs 0))) (fits-formula l (withClause f (litsAt bs 0)))
+
+    -- the second pass meets no bad token: the first met none
+    pub clause-never : {e : Ending} {w : List ℤ} → e ≡ endingAt bs 0 → e ≡ Ending.Bad → LineRead (clauseJudge bs) (State.Within r) (length bs) p m (Outcome.Refuse 2) p w
+    unfolding endingAt
+    clause-never e b = absurd (let k = sym b ∙ e ∙ ap (λ t. cond t Ending.Zero Ending.Bad) (listing-list bs 0 (seen .listing)) in let z : _≡_ {A = ℕ} 0 1 = cc in omega arith)
 
     pub clause-high : r .v < g → LineRead (clauseJudge bs) (State.Within r) (length bs) p m (Outcome.Refuse 3) p m
     clause-high i = untouched (clauseJudge bs) (length bs) p m r some (λ l f o k. rules l f ∙

@@ -89,7 +89,7 @@ holding-space (State.Within r) p m (some f) h = h .space
 
 -- THE FOLD, at a line's start: the rules' state, and what is left of the rules' reading
 abbrev judgeAll : Places → ℕ → List (List ℕ) → Option Formula → Read (Option Formula)
-judgeAll l = judgeLines (judgeBytes formulaLine (judgeFormula (limits l))) (formulaEnd (limits l))
+judgeAll l = judgeLines (judgeBytes formulaLine (judgeFormula (limits l))) formulaEnd
 
 pub record Here (bs : List ℕ) (p₀ m₀ p m : List ℤ) (s : State) (at n : ℕ) (l : Places) : Type 0 where
   pub state : Option Formula
@@ -115,7 +115,7 @@ going-start {bs} {p} {m} = record {
 
 -- the end of the file
 closes : (l : Places) (p₀ m₀ u w : List ℤ) (t : State) (f : Option Formula) → Holding t u w f → Kept (formulaNeedsSoFar f .prefix) p₀ u → Kept (formulaNeedsSoFar f .matrix) m₀ w
-    → Answers (goOn (refuseIn f (formulaEnd (limits l) f) (next f)) ended 0) p₀ m₀ (closeOf t) u w
+    → Answers (goOn (refuseIn f (formulaEnd f) (next f)) ended 0) p₀ m₀ (closeOf t) u w
 unfolding formulaEnd
 closes l p₀ m₀ u w State.Start none h a b = record { answer = (refl, refl); prefix = a; matrix = b }
 closes l p₀ m₀ u w State.Start (some f) h a b = absurd h

@@ -13,12 +13,13 @@ use Rattle.lines.specs.declared.Literal.{Literal}
 use Rattle.lines.specs.Scan.{literalAt}
 use Rattle.cells.specs.Cells.{codeAt, listAt}
 use Rattle.cells.proofs.Laws.{at-past, list-end, list-more}
+use Rattle.lists.specs.Lists.{isList}
 use Rattle.lists.specs.Stores.{codesAt, puts}
-use Rattle.lists.proofs.ListLaws.{more-read, sign-low, on-the-way}
+use Rattle.lists.proofs.ListLaws.{more-read, is-lost, is-end, is-more, sign-low, on-the-way}
 use Rattle.lists.proofs.StoreLaws.{puts-more, codes-lost, codes-end, codes-more}
 use Rattle.prefix.specs.Prefix.{entry}
 use Rattle.formula.specs.declared.Marked.{Marked}
-use Rattle.formula.specs.Tables.{isBound, Pass, pass, Few, Marks}
+use Rattle.formula.specs.Tables.{isBound, Pass, pass, Tells, Marks}
 
 -- ZEROS STORED IN FRONT
 pub record Zeroing (t₀ : List ℤ) (n : ℕ) (t : List ℤ) (i : ℕ) : Type 0 where
@@ -76,24 +77,25 @@ pub record Marking (bs : List ℕ) (at q : ℕ) (p₀ : List ℤ) (k₀ i : ℕ)
   pub steps : k + at ≤ k₀ + i
   pub long : length p ≡ length p₀
   pub text : pass q k (codesAt bs i) p ≡ pass q k₀ (codesAt bs at) p₀
+  pub list : isList bs i ≡ isList bs at
 
 pub marking-start : {bs : List ℕ} {at q : ℕ} {p₀ : List ℤ} {k₀ : ℕ} → Marking bs at q p₀ k₀ at p₀ k₀
-marking-start = record { steps = omega arith; long = refl; text = refl }
+marking-start = record { steps = omega arith; long = refl; text = refl; list = refl }
 
 module _ {bs : List ℕ} {at q : ℕ} {p₀ : List ℤ} {k₀ i : ℕ} {p : List ℤ} {k : ℕ} (s : Marking bs at q p₀ k₀ i p k) where
-  ended-as : {r : Marked} {u : List ℤ} → record { answer = r; table = u } ≡ pass q k₀ (codesAt bs at) p₀ → Few (k₀ + length bs) r → Marks q k₀ (length bs) (codesAt bs at) p₀ r u
-  ended-as e f = record { answer = ap (λ (x : Pass). x .answer) e; table = ap (λ (x : Pass). x .table) e; few = f }
+  ended-as : {r : Marked} {u : List ℤ} → record { answer = r; table = u } ≡ pass q k₀ (codesAt bs at) p₀ → Tells bs at k₀ r → Marks q k₀ bs at p₀ r u
+  ended-as e f = record { answer = ap (λ (x : Pass). x .answer) e; table = ap (λ (x : Pass). x .table) e; tells = f }
 
-  pub marking-lost : literalAt bs i ≡ Literal.Bad → Marks q k₀ (length bs) (codesAt bs at) p₀ Marked.Twice p
+  pub marking-lost : literalAt bs i ≡ Literal.Bad → Marks q k₀ bs at p₀ Marked.Bad p
   unfolding pass
-  marking-lost z = ended-as (ap (λ xs. pass q k xs p) (sym (codes-lost bs i z)) ∙ s .text) tt
+  marking-lost z = ended-as (ap (λ xs. pass q k xs p) (sym (codes-lost bs i z)) ∙ s .text) (sym (s .list) ∙ is-lost bs i z)
 
   module _ {x e : ℕ} (f : literalAt bs i ≡ Literal.Of x e) where
-    pub marking-end : x ≡ 0 → Marks q k₀ (length bs) (codesAt bs at) p₀ (Marked.Done k) p
+    pub marking-end : x ≡ 0 → Marks q k₀ bs at p₀ (Marked.Done k) p
     unfolding pass
     marking-end z =
-        ended-as (sym (ap (λ b. cond b (record { answer = Marked.Done k; table = p }) (cond (isBound p x) (record { answer = Marked.Twice; table = p }) (record { answer = Marked.Twice; table = set p (x / 2 - 1) (pos (2 * k + q)) }))) (eq-eqb x 0 z))
-        ∙ ap (λ xs. pass q k xs p) (sym (codes-end bs i f z)) ∙ s .text) (omega (arith, s .steps, on-the-way bs i f))
+        ended-as (sym (ap (λ b. cond b (record { answer = Marked.Done k; table = p }) (cond (isBound p x) (record { answer = Marked.Twice; table = p }) (record { answer = Marked.Bad; table = set p (x / 2 - 1) (pos (2 * k + q)) }))) (eq-eqb x 0 z))
+        ∙ ap (λ xs. pass q k xs p) (sym (codes-end bs i f z)) ∙ s .text) (sym (s .list) ∙ is-end bs i f z, omega (arith, s .steps, on-the-way bs i f))
 
     module _ (z : x ≡ 0 → ⊥) where
       pub variable-1 : 1 ≤ x / 2
@@ -106,7 +108,7 @@ module _ {bs : List ℕ} {at q : ℕ} {p₀ : List ℤ} {k₀ i : ℕ} {p : List
           sym (ap₂ (λ a b. cond a (record { answer = Marked.Done k; table = p }) (cond b (record { answer = Marked.Twice; table = p }) (pass q (k + 1) (codesAt bs e) (set p (x / 2 - 1) (pos (2 * k + q)))))) (ne-eqb x 0 z) g)
           ∙ ap (λ xs. pass q k xs p) (sym (codes-more bs i f z)) ∙ s .text
 
-      pub marking-twice : {r : ℕ} → r ≡ entry p (x / 2) → (r ≡ 0 → ⊥) → Marks q k₀ (length bs) (codesAt bs at) p₀ Marked.Twice p
+      pub marking-twice : {r : ℕ} → r ≡ entry p (x / 2) → (r ≡ 0 → ⊥) → Marks q k₀ bs at p₀ Marked.Twice p
       unfolding isBound
       marking-twice g y = ended-as (next-mark (ap not (ne-eqb (entry p (x / 2)) 0 (λ h. y (g ∙ h))))) tt
 
@@ -120,4 +122,5 @@ module _ {bs : List ℕ} {at q : ℕ} {p₀ : List ℤ} {k₀ i : ℕ} {p : List
             steps = omega (arith, s .steps, on-the-way bs i f);
             long = ap length w ∙ length-set p j (pos ((2 * k + q) % 2147483648)) ∙ s .long;
             text = ap (pass q (k + 1) (codesAt bs e)) o ∙ next-mark (ap not (eq-eqb (entry p (x / 2)) 0 (sym g ∙ y)));
+            list = sym (is-more bs i f z) ∙ s .list;
           }

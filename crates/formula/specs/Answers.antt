@@ -24,7 +24,8 @@ closeOf (State.Within r) = cond (eqb (r .clauses) (r .c)) (Answer.Done r) (Answe
 
 -- WHAT AN ANSWER SAYS, by what the rules read: the refusal's number and line, or the formula that the tables u and w show
 abbrev pub AnswerIs : Read (Option Formula) → Answer → List ℤ → List ℤ → Type 0
-AnswerIs (ended none) a u w = ⊥
+AnswerIs (ended none) (Answer.Done r) u w = ⊥
+AnswerIs (ended none) (Answer.Refused number line) u w = (number ≡ 2) × (line ≡ 0)
 AnswerIs (ended (some f)) (Answer.Done r) u w = Holds r u w f × (length (f .matrix) ≡ r .c)
 AnswerIs (ended (some f)) (Answer.Refused number line) u w = ⊥
 AnswerIs (refusedAt n i s) (Answer.Done r) u w = ⊥

@@ -5,7 +5,7 @@ ghost use lib.ListN.{length, replicate};
 ghost use Rattle.lines.specs.Lists.{all};
 ghost use Rattle.lines.specs.Scan.{headOf};
 ghost use Rattle.cells.specs.Cells.{listAt};
-ghost use Rattle.lists.specs.Stores.{codesAt, puts};
+ghost use Rattle.lists.specs.Stores.{puts};
 ghost use Rattle.prefix.specs.Prefix.{entry};
 ghost use Rattle.formula.specs.Kinds.{letterKind, kindOf, naturalAt};
 ghost use Rattle.formula.specs.Tables.{isBound, Marks};
@@ -17,6 +17,7 @@ use lines::Head;
 use lines::Literal;
 use lines::Run;
 use lists::Clause;
+use lists::Ending;
 
 // Document 01's limits of V and of C.
 const HIGHEST: u32 = 4096;
@@ -79,8 +80,9 @@ fn all_bound(prefix: &[i32], matrix: &[i32], from: usize) -> bool
     }
 }
 
-// How many variables are bound after a prefix line, or that one of them was bound before.
+// How many variables are bound after a prefix line, or that one of them was bound before, or that a token is no literal.
 enum Marked {
+    Bad,
     Twice,
     Done(u32),
 }
@@ -88,14 +90,13 @@ enum Marked {
 // The second pass over a prefix line: each variable's place gets its position in the prefix and its quantifier, 1 or 2.
 fn put_binding(line: &[u8], at: usize, q: u32, prefix: &mut [i32], bound: u32) -> Marked
     requires { ⌜ (bound + length (now line) ≤ 1048576) × (q ≤ 2) ⌝ }
-    ensures { λ r. ⌜ Marks q bound (length (now (line .entry))) (codesAt (now (line .entry)) at)
-        (now (prefix .entry)) r (now (prefix .exit)) ⌝ }
+    ensures { λ r. ⌜ Marks q bound (now (line .entry)) at (now (prefix .entry)) r (now (prefix .exit)) ⌝ }
 {
     let mut i = at;
     let mut k = bound;
     loop {
         let Literal::Of(x, e) = lines::literal_at(line, i) else {
-            return Marked::Twice;
+            return Marked::Bad;
         };
         if x == 0 {
             return Marked::Done(k);
@@ -131,16 +132,17 @@ fn binding_line(line: &[u8], at: usize, q: u32, r: Reading, prefix: &mut [i32]) 
     if v < m {
         return Outcome::Refuse(3);
     }
-    let Marked::Done(k) = put_binding(line, at, q, prefix, bound) else {
-        return Outcome::Refuse(4);
-    };
-    Outcome::Next(State::Within(Reading {
-        v,
-        c: r.c,
-        bound: k,
-        clauses: r.clauses,
-        used: r.used,
-    }))
+    match put_binding(line, at, q, prefix, bound) {
+        Marked::Bad => Outcome::Refuse(2),
+        Marked::Twice => Outcome::Refuse(4),
+        Marked::Done(k) => Outcome::Next(State::Within(Reading {
+            v,
+            c: r.c,
+            bound: k,
+            clauses: r.clauses,
+            used: r.used,
+        })),
+    }
 }
 
 // A clause line.
@@ -161,7 +163,9 @@ fn clause_line(line: &[u8], r: Reading, prefix: &[i32], matrix: &mut [i32]) -> O
     if room <= n {
         return Outcome::Refuse(15);
     }
-    lists::store_list(line, 0, matrix, used);
+    let Ending::Zero = lists::store_list(line, 0, matrix, used) else {
+        return Outcome::Refuse(2);
+    };
     if !all_bound(prefix, matrix, used) {
         return Outcome::Refuse(5);
     }

@@ -8,7 +8,7 @@ use lib.ListN.{length, drop, getD}
 use lib.Dec.{eqb}
 use borrow.Author.Tests.{eq-eqb, ne-eqb}
 use Rattle.lines.specs.Lists.{all, isEmpty}
-use Rattle.lines.specs.Bytes.{isDigit}
+use Rattle.lines.specs.Bytes.{isDigit, isMinus}
 use Rattle.lines.specs.Lines.{isNumber, value, Token, signed}
 use Rattle.lines.specs.declared.Digits.{Digits}
 use Rattle.lines.specs.declared.Number.{Number}
@@ -90,11 +90,11 @@ bad-of true n e = absurd (let z : _≡_ {A = ℕ} 0 1 = cc in omega arith)
 bad-of false n e = refl
 
 module _ (w : List ℕ) {d : Digits} (h : d ≡ digitsIn w) where
-  pub number-digits : {v : ℕ} → d ≡ Digits.Value v → Number.Value v ≡ numberIn w
+  pub number-digits : {v : ℕ} → d ≡ Digits.Value v → Number.Of (2 * v) ≡ numberIn w
   unfolding numberIn digitsIn
   number-digits {v} e =
       let k = value-of (isNumber w) (value 0 w) v (sym h ∙ e) in
-      sym (ap (λ t. shown (cond t (Token.number (value 0 w)) (signed w))) (k .0) ∙ ap Number.Value (sym (k .1)))
+      sym (ap (λ t. shown (cond t (Token.number (value 0 w)) (signed w))) (k .0) ∙ ap (λ n. Number.Of (2 * n)) (sym (k .1)))
 
   no-digits : d ≡ Digits.Bad → numberIn w ≡ shown (signed w)
   unfolding numberIn digitsIn
@@ -107,22 +107,22 @@ module _ (w : List ℕ) {d : Digits} (h : d ≡ digitsIn w) where
       go [] l = refl
       go (b ∷ bs) l = absurd (let k = l in omega arith)
 
-  pub number-other : d ≡ Digits.Bad → (getD w 0 0 ≡ 45 → ⊥) → Number.Bad ≡ numberIn w
+  pub number-other : d ≡ Digits.Bad → isMinus (getD w 0 0) ≡ false → Number.Bad ≡ numberIn w
   number-other e l = sym (no-digits e ∙ go w l)
     where
-      go : (w : List ℕ) → (getD w 0 0 ≡ 45 → ⊥) → shown (signed w) ≡ Number.Bad
+      go : (w : List ℕ) → isMinus (getD w 0 0) ≡ false → shown (signed w) ≡ Number.Bad
       go [] l = refl
-      go (b ∷ bs) l = ap (λ t. shown (cond (t && isNumber bs && not (eqb (value 0 bs) 0)) (Token.minus (value 0 bs)) (Token.word (b ∷ bs)))) (held-not Minus b l)
+      go (b ∷ bs) l = ap (λ t. shown (cond (t && isNumber bs && not (eqb (value 0 bs) 0)) (Token.minus (value 0 bs)) (Token.word (b ∷ bs)))) l
 
-  module _ (e : d ≡ Digits.Bad) (m : getD w 0 0 ≡ 45) (l : length w ≡ 0 → ⊥) {f : Digits} (g : f ≡ digitsIn (drop 1 w)) where
-    signs : (w : List ℕ) → getD w 0 0 ≡ 45 → (length w ≡ 0 → ⊥)
-        → shown (signed w) ≡ cond (isNumber (drop 1 w) && not (eqb (value 0 (drop 1 w)) 0)) (Number.Minus (min cap (value 0 (drop 1 w)))) Number.Bad
+  module _ (e : d ≡ Digits.Bad) (m : isMinus (getD w 0 0) ≡ true) (l : length w ≡ 0 → ⊥) {f : Digits} (g : f ≡ digitsIn (drop 1 w)) where
+    signs : (w : List ℕ) → isMinus (getD w 0 0) ≡ true → (length w ≡ 0 → ⊥)
+        → shown (signed w) ≡ cond (isNumber (drop 1 w) && not (eqb (value 0 (drop 1 w)) 0)) (Number.Of (2 * min cap (value 0 (drop 1 w)) + 1)) Number.Bad
     signs [] m l = absurd (l refl)
     signs (b ∷ bs) m l =
-        ap (λ t. shown (cond (t && isNumber bs && not (eqb (value 0 bs) 0)) (Token.minus (value 0 bs)) (Token.word (b ∷ bs)))) (held-is Minus b m)
+        ap (λ t. shown (cond (t && isNumber bs && not (eqb (value 0 bs) 0)) (Token.minus (value 0 bs)) (Token.word (b ∷ bs)))) m
         ∙ go (isNumber bs && not (eqb (value 0 bs) 0))
       where
-        go : (t : Bool) → shown (cond t (Token.minus (value 0 bs)) (Token.word (b ∷ bs))) ≡ cond t (Number.Minus (min cap (value 0 bs))) Number.Bad
+        go : (t : Bool) → shown (cond t (Token.minus (value 0 bs)) (Token.word (b ∷ bs))) ≡ cond t (Number.Of (2 * min cap (value 0 bs) + 1)) Number.Bad
         go true = refl
         go false = refl
 
@@ -130,21 +130,26 @@ module _ (w : List ℕ) {d : Digits} (h : d ≡ digitsIn w) where
     unfolding digitsIn
     number-sign k =
         sym (no-digits e ∙ signs w m l
-        ∙ ap (λ t. cond (t && not (eqb (value 0 (drop 1 w)) 0)) (Number.Minus (min cap (value 0 (drop 1 w)))) Number.Bad) (bad-of (isNumber (drop 1 w)) (value 0 (drop 1 w)) (sym g ∙ k)))
+        ∙ ap (λ t. cond (t && not (eqb (value 0 (drop 1 w)) 0)) (Number.Of (2 * min cap (value 0 (drop 1 w)) + 1)) Number.Bad) (bad-of (isNumber (drop 1 w)) (value 0 (drop 1 w)) (sym g ∙ k)))
 
     pub number-minus-zero : {v : ℕ} → f ≡ Digits.Value v → v ≡ 0 → Number.Bad ≡ numberIn w
     unfolding digitsIn
     number-minus-zero {v} k z =
         let q = value-of (isNumber (drop 1 w)) (value 0 (drop 1 w)) v (sym g ∙ k) in
         sym (no-digits e ∙ signs w m l
-        ∙ ap (λ t. cond (isNumber (drop 1 w) && not t) (Number.Minus (min cap (value 0 (drop 1 w)))) Number.Bad) (eq-eqb (value 0 (drop 1 w)) 0 (omega (arith, q .1)))
-        ∙ ap (λ t. cond t (Number.Minus (min cap (value 0 (drop 1 w)))) Number.Bad) (and-false (isNumber (drop 1 w))))
+        ∙ ap (λ t. cond (isNumber (drop 1 w) && not t) (Number.Of (2 * min cap (value 0 (drop 1 w)) + 1)) Number.Bad) (eq-eqb (value 0 (drop 1 w)) 0 (omega (arith, q .1)))
+        ∙ ap (λ t. cond t (Number.Of (2 * min cap (value 0 (drop 1 w)) + 1)) Number.Bad) (and-false (isNumber (drop 1 w))))
 
-    pub number-minus : {v : ℕ} → f ≡ Digits.Value v → (v ≡ 0 → ⊥) → Number.Minus v ≡ numberIn w
+    pub number-minus : {v : ℕ} → f ≡ Digits.Value v → (v ≡ 0 → ⊥) → Number.Of (2 * v + 1) ≡ numberIn w
     unfolding digitsIn
     number-minus {v} k z =
         let q = value-of (isNumber (drop 1 w)) (value 0 (drop 1 w)) v (sym g ∙ k) in
         sym (no-digits e ∙ signs w m l
-        ∙ ap (λ t. cond (t && not (eqb (value 0 (drop 1 w)) 0)) (Number.Minus (min cap (value 0 (drop 1 w)))) Number.Bad) (q .0)
-        ∙ ap (λ t. cond (not t) (Number.Minus (min cap (value 0 (drop 1 w)))) Number.Bad) (ne-eqb (value 0 (drop 1 w)) 0 (λ y. z (q .1 ∙ ap (min cap) y)))
-        ∙ ap Number.Minus (sym (q .1)))
+        ∙ ap (λ t. cond (t && not (eqb (value 0 (drop 1 w)) 0)) (Number.Of (2 * min cap (value 0 (drop 1 w)) + 1)) Number.Bad) (q .0)
+        ∙ ap (λ t. cond (not t) (Number.Of (2 * min cap (value 0 (drop 1 w)) + 1)) Number.Bad) (ne-eqb (value 0 (drop 1 w)) 0 (λ y. z (q .1 ∙ ap (min cap) y)))
+        ∙ ap (λ n. Number.Of (2 * n + 1)) (sym (q .1)))
+
+-- what is read is at most the cap
+pub digits-capped : (w : List ℕ) {d : Digits} {v : ℕ} → d ≡ digitsIn w → d ≡ Digits.Value v → v ≤ cap
+unfolding digitsIn
+digits-capped w {d} {v} h e = let k = value-of (isNumber w) (value 0 w) v (sym h ∙ e) in omega (arith, k .1)

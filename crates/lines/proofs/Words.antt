@@ -20,30 +20,15 @@ use Rattle.lines.proofs.Here.{past}
 use Rattle.lines.proofs.Runs.{run-le, run-go, none-left, skipped, starts, one-word}
 
 -- what a token is, by what it shows
-value-literal : (t : Token) (e v : ℕ) → shown t ≡ Number.Value v → literalOf t e ≡ Literal.Of (2 * v) e
-value-literal (number n) e v p = let q : min cap n ≡ v = cc in ap (λ x. Literal.Of (2 * x) e) q
-value-literal (minus n) e v p = absurd (let z : _≡_ {A = ℕ} 0 1 = cc in omega arith)
-value-literal (word w) e v p = absurd (let z : _≡_ {A = ℕ} 0 1 = cc in omega arith)
-
-minus-literal : (t : Token) (e v : ℕ) → shown t ≡ Number.Minus v → literalOf t e ≡ Literal.Of (2 * v + 1) e
-minus-literal (number n) e v p = absurd (let z : _≡_ {A = ℕ} 0 1 = cc in omega arith)
-minus-literal (minus n) e v p = let q : min cap n ≡ v = cc in ap (λ x. Literal.Of (2 * x + 1) e) q
-minus-literal (word w) e v p = absurd (let z : _≡_ {A = ℕ} 0 1 = cc in omega arith)
+shown-literal : (t : Token) (e x : ℕ) → shown t ≡ Number.Of x → literalOf t e ≡ Literal.Of x e
+shown-literal (number n) e x p = let q : 2 * min cap n ≡ x = cc in ap (λ y. Literal.Of y e) q
+shown-literal (minus n) e x p = let q : 2 * min cap n + 1 ≡ x = cc in ap (λ y. Literal.Of y e) q
+shown-literal (word w) e x p = absurd (let z : _≡_ {A = ℕ} 0 1 = cc in omega arith)
 
 bad-literal : (t : Token) (e : ℕ) → shown t ≡ Number.Bad → literalOf t e ≡ Literal.Bad
 bad-literal (number n) e p = absurd (let z : _≡_ {A = ℕ} 0 1 = cc in omega arith)
 bad-literal (minus n) e p = absurd (let z : _≡_ {A = ℕ} 0 1 = cc in omega arith)
 bad-literal (word w) e p = refl
-
-value-low : (t : Token) (v : ℕ) → shown t ≡ Number.Value v → v ≤ cap
-value-low (number n) v p = let q : min cap n ≡ v = cc in omega arith
-value-low (minus n) v p = absurd (let z : _≡_ {A = ℕ} 0 1 = cc in omega arith)
-value-low (word w) v p = absurd (let z : _≡_ {A = ℕ} 0 1 = cc in omega arith)
-
-minus-low : (t : Token) (v : ℕ) → shown t ≡ Number.Minus v → v ≤ cap
-minus-low (number n) v p = absurd (let z : _≡_ {A = ℕ} 0 1 = cc in omega arith)
-minus-low (minus n) v p = let q : min cap n ≡ v = cc in omega arith
-minus-low (word w) v p = absurd (let z : _≡_ {A = ℕ} 0 1 = cc in omega arith)
 
 module _ (bs : List ℕ) (at : ℕ) {s : ℕ} (h : s ≡ at + run isBlank (drop at bs)) where
   pub start : startAt bs at ≡ s
@@ -93,20 +78,11 @@ module _ (bs : List ℕ) (at : ℕ) {s : ℕ} (h : s ≡ at + run isBlank (drop 
       unfolding literalAt
       literal-is = ap₂ (λ w n. literalOf (tokenOf w) n) the-word ends
 
-      pub literal-value : {v : ℕ} → n ≡ Number.Value v → Literal.Of (2 * v) e ≡ literalAt bs at
-      literal-value {v} g = sym (literal-is ∙ value-literal (tokenOf (take (e - s) (drop s bs))) e v (sym is-shown ∙ g))
-
-      pub literal-minus : {v : ℕ} → n ≡ Number.Minus v → Literal.Of (2 * v + 1) e ≡ literalAt bs at
-      literal-minus {v} g = sym (literal-is ∙ minus-literal (tokenOf (take (e - s) (drop s bs))) e v (sym is-shown ∙ g))
+      pub literal-read : {x : ℕ} → n ≡ Number.Of x → Literal.Of x e ≡ literalAt bs at
+      literal-read {x} g = sym (literal-is ∙ shown-literal (tokenOf (take (e - s) (drop s bs))) e x (sym is-shown ∙ g))
 
       pub literal-other : n ≡ Number.Bad → Literal.Bad ≡ literalAt bs at
       literal-other g = sym (literal-is ∙ bad-literal (tokenOf (take (e - s) (drop s bs))) e (sym is-shown ∙ g))
-
-      pub value-capped : {v : ℕ} → n ≡ Number.Value v → v ≤ cap
-      value-capped {v} g = value-low (tokenOf (take (e - s) (drop s bs))) v (sym is-shown ∙ g)
-
-      pub minus-capped : {v : ℕ} → n ≡ Number.Minus v → v ≤ cap
-      minus-capped {v} g = minus-low (tokenOf (take (e - s) (drop s bs))) v (sym is-shown ∙ g)
 
     pub word-same : {r : Bool} (w : List ℕ) → s < length bs → r ≡ sameBytes (take (e - s) (drop s bs)) w → r ≡ true → Found.After e ≡ wordIs bs at w
     unfolding wordIs

@@ -33,9 +33,10 @@ run p (b ∷ bs) = cond (p b) (suc (run p bs)) 0
 unfoldable pub digitsIn : List ℕ → Digits
 digitsIn ds = cond (isNumber ds) (Digits.Value (min cap (value 0 ds))) Digits.Bad
 
+-- The code of a number or a literal: 2v for v, 2v + 1 for -v, v at most the cap. The zero that ends a list has code 0.
 abbrev pub shown : Token → Number
-shown (number n) = Number.Value (min cap n)
-shown (minus n) = Number.Minus (min cap n)
+shown (number n) = Number.Of (2 * min cap n)
+shown (minus n) = Number.Of (2 * min cap n + 1)
 shown (word w) = Number.Bad
 
 unfoldable pub numberIn : List ℕ → Number
@@ -58,7 +59,7 @@ tokensFrom bs at = map tokenOf (wordsOf (drop at bs))
 unfoldable pub endedAt : List ℕ → ℕ → Bool
 endedAt bs at = nothingMore (tokensFrom bs at)
 
--- The code of a literal: 2v for v, 2v + 1 for -v, v at most the cap. The zero that ends a list has code 0.
+-- the same with the place after it
 abbrev pub literalOf : Token → ℕ → Literal
 literalOf (number n) e = Literal.Of (2 * min cap n) e
 literalOf (minus n) e = Literal.Of (2 * min cap n + 1) e

@@ -127,10 +127,9 @@ fn digits_from(word: &[u8], from: usize) -> Digits
     Digits::Value(v)
 }
 
-// A number, at most the cap; the same with a minus; anything else.
+// The code of a number of at most the cap: 2v for v, 2v + 1 for -v; anything else.
 pub enum Number {
-    Value(u32),
-    Minus(u32),
+    Of(u32),
     Bad,
 }
 
@@ -139,12 +138,12 @@ pub fn number_of(word: &[u8]) -> Number
     ensures { λ r. ⌜ r ≡ numberIn (now (word .entry)) ⌝ }
 {
     if let Digits::Value(v) = digits_from(word, 0) {
-        return Number::Value(v);
+        return Number::Of(2 * v);
     }
     if word.len() == 0 {
         return Number::Bad;
     }
-    if word[0] != b'-' {
+    if !is_a(Class::Minus, word[0]) {
         return Number::Bad;
     }
     let Digits::Value(v) = digits_from(word, 1) else {
@@ -153,7 +152,7 @@ pub fn number_of(word: &[u8]) -> Number
     if v == 0 {
         return Number::Bad;
     }
-    Number::Minus(v)
+    Number::Of(2 * v + 1)
 }
 
 // The code of a literal, 2v or 2v + 1, and the place after it.
@@ -171,11 +170,10 @@ pub fn literal_at(line: &[u8], at: usize) -> Literal
         return Literal::Bad;
     }
     let e = past(line, s, Run::Word);
-    match number_of(&line[s..e]) {
-        Number::Value(v) => Literal::Of(2 * v, e),
-        Number::Minus(v) => Literal::Of(2 * v + 1, e),
-        Number::Bad => Literal::Bad,
-    }
+    let Number::Of(x) = number_of(&line[s..e]) else {
+        return Literal::Bad;
+    };
+    Literal::Of(x, e)
 }
 
 // Whether nothing more stands on the line.

@@ -19,8 +19,11 @@ use Rattle.rules.specs.Forms.{FormulaLine, binding, CertificateLine, mapping, h
 use Rattle.lists.specs.declared.Listed.{Listed}
 use Rattle.lists.specs.declared.Clause.{Clause}
 use Rattle.lists.specs.declared.Mapping.{Mapping}
+use Rattle.lists.specs.declared.Ending.{Ending}
+use Rattle.lists.specs.Stores.{endingAt}
 use Rattle.lists.specs.Lists.{placeAfter, signs, capped, listedAt, litsAt, exactly, surveyed, clauseAt, mapped, mappingAt}
-use Rattle.lists.proofs.ListLaws.{upto-zero, upto-more, Listing, listed-lost, listed-told}
+use Rattle.lists.proofs.ListLaws.{upto-zero, upto-more, Listing, listing-list, listed-lost, listed-told}
+use Rattle.lists.proofs.StoreLaws.{ending-good}
 
 -- NUMBERS AND LITERALS
 abbrev unless-signed : Bool → Lits → List Token → Option (List ℕ × List Token)
@@ -172,6 +175,10 @@ module _ (bs : List ℕ) (at : ℕ) where
                 listing = record { list = o .list; sign = a ∙ o .sign; count = b ∙ o .count; most = d ∙ o .most; positive = o .positive; after = o .after; further = omega (arith, o .further); within = o .within };
                 ends = none-more e q;
               }
+
+  -- the second pass over such a line meets its zero
+  pub clause-ended : {s n m : ℕ} → clauseAt bs at ≡ Clause.Good s n m → {r : Ending} → r ≡ endingAt bs at → r ≡ Ending.Bad → ⊥
+  clause-ended h q e = ending-good bs at q e (listing-list bs at (clause-told h .listing))
 
   module _ {s n m : ℕ} (o : Seen bs at s n m) where
     pub exact : exactly literal (tokensFrom bs at) ≡ some (litsAt bs at)

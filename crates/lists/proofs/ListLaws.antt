@@ -20,7 +20,7 @@ use Rattle.rules.specs.Codes.{sign}
 use Rattle.rules.specs.Forms.{upToZero, literal, isZero, ahead}
 use Rattle.rules.proofs.Kit.{and-l, and-r, and-i}
 use Rattle.lists.specs.declared.Listed.{Listed}
-use Rattle.lists.specs.Lists.{placeAfter, signs, capped, listed, listedAt, litsAt}
+use Rattle.lists.specs.Lists.{placeAfter, signs, capped, listed, listedAt, litsAt, isList}
 use Rattle.lists.specs.Stores.{inRange}
 
 -- ONE TOKEN OF A LIST
@@ -103,6 +103,27 @@ listed-cons bs i l (some r) =
     let b : min cap (max (var l) (greatest (vars (r .0)))) ≡ max (min cap (var l)) (min cap (greatest (vars (r .0)))) = omega arith in
     ap₂ (λ x y. Listed.Good (max (sign l) (signs (r .0))) x y (placeAfter (suc (length (r .0))) bs (endAt bs i))) a b
 
+-- WHETHER A LIST STANDS THERE, one token further
+module _ (bs : List ℕ) (i : ℕ) where
+  pub is-lost : literalAt bs i ≡ Literal.Bad → isList bs i ≡ false
+  unfolding isList
+  is-lost p = ap {A = Option (Lits × List Token)} (λ r. maybe r false (λ r. true)) (none-read bs i p)
+
+  module _ {x e : ℕ} (p : literalAt bs i ≡ Literal.Of x e) where
+    pub is-end : x ≡ 0 → isList bs i ≡ true
+    unfolding isList
+    is-end z = ap {A = Option (Lits × List Token)} (λ r. maybe r false (λ r. true)) (zero-read bs i p z)
+
+    pub is-more : (x ≡ 0 → ⊥) → isList bs i ≡ isList bs e
+    unfolding isList
+    is-more z =
+        ap {A = Option (Lits × List Token)} (λ r. maybe r false (λ r. true)) (more-read bs i p z .list)
+        ∙ go (upToZero literal (tokensFrom bs e))
+      where
+        go : (r : Option (Lits × List Token)) → maybe (ahead (some (more-read bs i p z .lit)) r) false (λ r. true) ≡ maybe r false (λ r. true)
+        go none = refl
+        go (some r) = refl
+
 pub sign-low : (l : Lit) → sign l ≤ 1
 sign-low (pos n) = omega arith
 sign-low (neg n) = omega arith
@@ -179,6 +200,10 @@ pub record Listing (bs : List ℕ) (at s n m e : ℕ) : Type 0 where
   pub after : e ≡ placeAfter (suc (length (litsAt bs at))) bs at
   pub further : at + n < e
   pub within : e ≤ length bs
+
+pub listing-list : (bs : List ℕ) (at : ℕ) {s n m e : ℕ} → Listing bs at s n m e → isList bs at ≡ true
+unfolding isList
+listing-list bs at o = ap {A = Option (Lits × List Token)} (λ r. maybe r false (λ r. true)) (o .list)
 
 pub pair-parts : {A : Type 0} (c d : A) (ts us : List Token) → _≡_ {A = Option (A × List Token)} (some (c, ts)) (some (d, us)) → (c ≡ d) × (ts ≡ us)
 pair-parts {A} c d ts us e = (ap (λ x. out x .0) e, ap (λ x. out x .1) e)

@@ -12,7 +12,7 @@ use lib.Seq.{sets, sets-eq, set-out, take-set-le, take-at, drop-at, length-take-
 use lib.IntN.{ℤ}
 use lib.IntN.{pos as int}
 use lib.Dec.{eqb, leb}
-use borrow.Author.Tests.{eq-eqb, ne-eqb, eqb-true, leb-true}
+use borrow.Author.Tests.{eq-eqb, ne-eqb, eqb-true, leb-true, leb-false}
 use Rattle.lines.specs.Lists.{all}
 use Rattle.lines.specs.Lines.{Token, number, minus, word}
 use Rattle.lines.specs.declared.Literal.{Literal}
@@ -25,9 +25,10 @@ use Rattle.rules.specs.Literals.{pos, neg, Lits, vars, var}
 use Rattle.rules.specs.Codes.{codeOf}
 use Rattle.rules.specs.Forms.{upToZero, literal}
 use Rattle.rules.proofs.Kit.{and-l, and-r}
-use Rattle.lists.specs.Lists.{signs, litsAt}
-use Rattle.lists.specs.Stores.{codesIn, codesAt, puts, written, flat, placeOf, inRange}
-use Rattle.lists.proofs.ListLaws.{upto-zero, upto-more, pair-parts, ahead-some, sign-low, Listing, listed-range}
+use Rattle.lists.specs.declared.Ending.{Ending}
+use Rattle.lists.specs.Lists.{signs, litsAt, isList}
+use Rattle.lists.specs.Stores.{codesIn, codesAt, endingAt, puts, written, flat, placeOf, inRange}
+use Rattle.lists.proofs.ListLaws.{upto-zero, upto-more, pair-parts, ahead-some, sign-low, Listing, listed-range, is-lost, is-end, is-more}
 
 -- STORES FROM A PLACE ON
 pub puts-more : (t : List ℤ) (k x : ℕ) (xs : List ℕ) → puts t k (x ∷ xs) ≡ puts (set t k (int x)) (k + 1) xs
@@ -104,31 +105,49 @@ module _ (bs : List ℕ) (i : ℕ) where
 pub record Storing (bs : List ℕ) (at : ℕ) (m₀ : List ℤ) (from i k : ℕ) (m : List ℤ) : Type 0 where
   pub long : length m ≡ length m₀
   pub text : puts m k (codesAt bs i) ≡ puts m₀ from (codesAt bs at)
+  pub list : isList bs i ≡ isList bs at
 
 pub storing-start : {bs : List ℕ} {at : ℕ} {m₀ : List ℤ} {from : ℕ} → Storing bs at m₀ from at from m₀
-storing-start = record { long = refl; text = refl }
+storing-start = record { long = refl; text = refl; list = refl }
+
+-- from the next place, or from one beyond the end, where nothing is stored
+puts-after : (t : List ℤ) (k k′ : ℕ) (xs : List ℕ) → k′ ≡ min (k + 1) (max k (length t)) → puts t k′ xs ≡ puts t (k + 1) xs
+puts-after t k k′ xs e = go (leb (length t) k) refl
+  where
+    go : (b : Bool) → leb (length t) k ≡ b → puts t k′ xs ≡ puts t (k + 1) xs
+    go true q = let h = leb-true (length t) k q in puts-past t k′ xs (omega arith) ∙ sym (puts-past t (k + 1) xs (omega arith))
+    go false q = let h = leb-false (length t) k q in let z : k′ ≡ k + 1 = omega arith in ap (λ n. puts t n xs) z
 
 module _ {bs : List ℕ} {at : ℕ} {m₀ : List ℤ} {from i k : ℕ} {m : List ℤ} (s : Storing bs at m₀ from i k m) where
-  pub storing-full : length m ≤ k → m ≡ puts m₀ from (codesAt bs at)
-  storing-full h = sym (puts-past m k (codesAt bs i) h) ∙ s .text
-
-  pub storing-lost : literalAt bs i ≡ Literal.Bad → m ≡ puts m₀ from (codesAt bs at)
-  unfolding puts
-  storing-lost p = ap (puts m k) (sym (codes-lost bs i p)) ∙ s .text
+  pub storing-lost : literalAt bs i ≡ Literal.Bad → (m ≡ puts m₀ from (codesAt bs at)) × (Ending.Bad ≡ endingAt bs at)
+  unfolding puts endingAt
+  storing-lost p =
+      (ap (puts m k) (sym (codes-lost bs i p)) ∙ s .text, sym (ap (λ b. cond b Ending.Zero Ending.Bad) (sym (s .list) ∙ is-lost bs i p)))
 
   module _ {x e : ℕ} (p : literalAt bs i ≡ Literal.Of x e) {u : List ℤ} (f : u ≡ set m k (int (x % 2147483648))) where
     is-set : u ≡ set m k (int x)
     is-set = f ∙ ap (λ y. set m k (int y)) (code-small bs i p)
 
-    pub storing-end : x ≡ 0 → u ≡ puts m₀ from (codesAt bs at)
-    unfolding puts
-    storing-end z = is-set ∙ ap (puts m k) (sym (codes-end bs i p z)) ∙ s .text
+    pub storing-end : x ≡ 0 → (u ≡ puts m₀ from (codesAt bs at)) × (Ending.Zero ≡ endingAt bs at)
+    unfolding puts endingAt
+    storing-end z = (
+      is-set ∙ ap (puts m k) (sym (codes-end bs i p z)) ∙ s .text,
+      sym (ap (λ b. cond b Ending.Zero Ending.Bad) (sym (s .list) ∙ is-end bs i p z)),
+    )
 
-    pub storing-more : (x ≡ 0 → ⊥) → Storing bs at m₀ from e (k + 1) u
-    storing-more z = record {
+    pub storing-more : (x ≡ 0 → ⊥) → {k′ : ℕ} → k′ ≡ min (k + 1) (max k (length u)) → Storing bs at m₀ from e k′ u
+    storing-more z h = record {
       long = ap length f ∙ length-set m k (int (x % 2147483648)) ∙ s .long;
-      text = ap (λ v. puts v (k + 1) (codesAt bs e)) is-set ∙ sym (puts-more m k x (codesAt bs e)) ∙ ap (puts m k) (sym (codes-more bs i p z)) ∙ s .text;
+      text = puts-after u k _ (codesAt bs e) h ∙ ap (λ v. puts v (k + 1) (codesAt bs e)) is-set ∙ sym (puts-more m k x (codesAt bs e))
+          ∙ ap (puts m k) (sym (codes-more bs i p z)) ∙ s .text;
+      list = sym (is-more bs i p z) ∙ s .list;
     }
+
+-- where a list stands, the second pass meets its zero
+pub ending-good : (bs : List ℕ) (at : ℕ) {r : Ending} → r ≡ endingAt bs at → r ≡ Ending.Bad → isList bs at ≡ true → ⊥
+unfolding endingAt
+ending-good bs at q b l =
+    let e = sym (ap (λ t. cond t Ending.Zero Ending.Bad) l) ∙ sym q ∙ b in let z : _≡_ {A = ℕ} 0 1 = cc in omega arith
 
 -- A LIST AS IT IS STORED
 codes-written : (ts : List Token) (c : Lits) (rest : List Token) → upToZero literal ts ≡ some (c, rest) → greatest (vars c) ≤ cap → codesIn ts ≡ written c

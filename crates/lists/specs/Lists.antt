@@ -1,4 +1,5 @@
 -- The lists of a line, as the first pass sees them. Assumes nothing.
+use mathlib.Core.Bool.{Bool, true, false}
 use mathlib.Core.List.{List, [], _∷_}
 use mathlib.Core.Option.{Option, none, some}
 use Prim.Native.Nat.{ℕ, zero, suc, min, max}
@@ -38,6 +39,10 @@ listedAt bs at = listed bs at (upToZero literal (tokensFrom bs at))
 -- its literals; none if there is no such list
 unfoldable pub litsAt : List ℕ → ℕ → Lits
 litsAt bs at = maybe (upToZero literal (tokensFrom bs at)) [] (λ r. r .0)
+
+-- there is such a list
+unfoldable pub isList : List ℕ → ℕ → Bool
+isList bs at = maybe (upToZero literal (tokensFrom bs at)) false (λ r. true)
 
 -- tokens up to a zero that ends the line
 unfoldable pub exactly : {A : Type 0} → (Token → Option A) → List Token → Option (List A)

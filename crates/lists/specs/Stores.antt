@@ -11,6 +11,8 @@ use Rattle.lines.specs.Lines.{Token, number, minus, word}
 use Rattle.lines.specs.Scan.{cap, tokensFrom}
 use Rattle.rules.specs.Literals.{Lits}
 use Rattle.rules.specs.Codes.{codeOf}
+use Rattle.lists.specs.declared.Ending.{Ending}
+use Rattle.lists.specs.Lists.{isList}
 
 -- the codes of the tokens up to and with the zero, or up to a token that is no literal
 unfoldable pub codesIn : List Token → List ℕ
@@ -21,6 +23,10 @@ codesIn (word w ∷ ts) = []
 
 unfoldable pub codesAt : List ℕ → ℕ → List ℕ
 codesAt bs at = codesIn (tokensFrom bs at)
+
+-- what ends a second pass: the zero, or a token that is no literal
+unfoldable pub endingAt : List ℕ → ℕ → Ending
+endingAt bs at = cond (isList bs at) Ending.Zero Ending.Bad
 
 -- numbers stored from a place on, as far as the table goes
 unfoldable pub puts : List ℤ → ℕ → List ℕ → List ℤ

@@ -1,7 +1,8 @@
 // The lists of a line, literals up to a zero: a first pass that writes nothing, and a second that stores a list in a table.
 ghost use mathlib.Core.Path.{_≡_};
 ghost use Rattle.lists.specs.Lists.{listedAt, clauseAt, mappingAt};
-ghost use Rattle.lists.specs.Stores.{codesAt, puts};
+ghost use Prim.Native.Nat.{_+_, min, max};
+ghost use Rattle.lists.specs.Stores.{codesAt, endingAt, puts};
 use cells::larger;
 use lines::Literal;
 
@@ -81,21 +82,38 @@ pub fn mapping_at(line: &[u8], at: usize) -> Mapping
     Mapping::Lists(k, m, p, e, l, i, h)
 }
 
+// What ends a second pass: the list's zero, or a token that is no literal.
+pub enum Ending {
+    Zero,
+    Bad,
+}
+
+// The place after k, as far as a table of n places goes.
+fn place_after(k: usize, n: usize) -> usize
+    ensures { λ r. ⌜ r ≡ min (k + 1) (max k n) ⌝ }
+{
+    if k < n {
+        return k + 1;
+    }
+    k
+}
+
 // The second pass: the codes of the literals and of the zero after them, from place `from` on, as far as the table goes.
-pub fn store_list(line: &[u8], at: usize, table: &mut [i32], from: usize)
-    ensures { λ _. ⌜ now (table .exit) ≡ puts (now (table .entry)) from (codesAt (now (line .entry)) at) ⌝ }
+pub fn store_list(line: &[u8], at: usize, table: &mut [i32], from: usize) -> Ending
+    ensures { λ r. ⌜ (now (table .exit) ≡ puts (now (table .entry)) from (codesAt (now (line .entry)) at))
+        × (r ≡ endingAt (now (line .entry)) at) ⌝ }
 {
     let mut i = at;
     let mut k = from;
-    while k < table.len() {
+    loop {
         let Literal::Of(x, e) = lines::literal_at(line, i) else {
-            return;
+            return Ending::Bad;
         };
         cells::put(table, k, x);
         if x == 0 {
-            return;
+            return Ending::Zero;
         }
-        k += 1;
+        k = place_after(k, table.len());
         i = e;
     }
 }

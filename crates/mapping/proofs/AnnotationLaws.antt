@@ -16,16 +16,37 @@ use Rattle.rules.specs.Formula.{Formula, universal, existential, dependsOn}
 use Rattle.rules.specs.Expansion.{goodAnnotation}
 use Rattle.rules.proofs.Kit.{and-r, In, all-in, in-all}
 use Rattle.lists.specs.Stores.{inRange}
+use Rattle.mapping.specs.Numbers.{ruled}
 use Rattle.mapping.specs.Annotation.{under, once, annotates}
+use Rattle.mapping.proofs.NumberLaws.{ruled-kept, ruled-broken, ruled-no}
 
 -- THE TESTS of the code
 pub under-is : (w : ℕ → ℕ) (es : List ℕ) (u : ℕ) {b : Bool} → isUniversal w u ≡ b → (b && all (λ e. dependency w e u) es) ≡ under w es u
 unfolding under
 under-is w es u e = ap (λ b. b && all (λ e. dependency w e u) es) (sym e)
 
-pub annotates-is : (w : ℕ → ℕ) (es us : List ℕ) {x y : Bool} → all (isExistential w) es ≡ x → once us ≡ y → (x && (y && all (under w es) us)) ≡ annotates w es us
+pub under-ruled : (w : ℕ → ℕ) (es : List ℕ) (u e : ℕ) {r : ℕ} → r ≡ ruled 8 (all (λ e. dependency w e u) es) e → isUniversal w u ≡ true
+    → r ≡ ruled 8 (under w es u) e
+under-ruled w es u e q h = q ∙ ap (λ b. ruled 8 b e) (under-is w es u h)
+
+annotates-is : (w : ℕ → ℕ) (es us : List ℕ) {x y : Bool} → all (isExistential w) es ≡ x → once us ≡ y → (x && (y && all (under w es) us)) ≡ annotates w es us
 unfolding annotates
 annotates-is w es us a b = ap₂ (λ x y. x && (y && all (under w es) us)) (sym a) (sym b)
+
+-- and their refusals, where the lists end with their zeros
+module _ (w : ℕ → ℕ) (es us : List ℕ) {n e : ℕ} (q : n ≡ ruled 8 (all (isExistential w) es) e) (z : e ≡ 0) where
+  pub annotates-1 : (n ≡ 0 → ⊥) → n ≡ ruled 8 (annotates w es us) 0
+  annotates-1 h = let b = ruled-broken q z h in b .1 ∙ ruled-no 8 0 (sym (annotates-is w es us (b .0) refl))
+
+  module _ (h : n ≡ 0) {m d : ℕ} (p : m ≡ ruled 8 (once us) d) (y : d ≡ 0) where
+    kept : all (isExistential w) es ≡ true
+    kept = ruled-kept q z (λ x. omega arith) h
+
+    pub annotates-2 : (m ≡ 0 → ⊥) → m ≡ ruled 8 (annotates w es us) 0
+    annotates-2 k = let b = ruled-broken p y k in b .1 ∙ ruled-no 8 0 (sym (annotates-is w es us kept (b .0)))
+
+    pub annotates-3 : m ≡ 0 → {r : ℕ} → r ≡ ruled 8 (all (under w es) us) d → r ≡ ruled 8 (annotates w es us) 0
+    annotates-3 k o = o ∙ ap₂ (ruled 8) (annotates-is w es us kept (ruled-kept p y (λ x. omega arith) k)) y
 
 and-turned : (a b : Bool) → a && b ≡ b && a
 and-turned true true = refl

@@ -12,6 +12,7 @@ use borrow.Author.Tests.{ne-eqb, eqb-true, eqb-false, leb-true}
 use Rattle.cells.specs.Cells.{num, cellAt, listAt, Kept}
 use Rattle.cells.proofs.Laws.{at-same, at-other, kept-self, kept-chain, kept-set, stored}
 use Rattle.prefix.specs.Prefix.{entry}
+use Rattle.lists.specs.Lists.{isList}
 use Rattle.lists.specs.Stores.{codesAt, puts, inRange}
 use Rattle.lists.proofs.StoreLaws.{list-kept}
 use Rattle.rules.specs.Basics.{isIn, distinct}
@@ -21,9 +22,10 @@ use Rattle.rules.specs.Expansion.{Copy, copies, copyVars, isMapped, standsFor, 
 use Rattle.rules.proofs.Kit.{and-l, and-r, by-yes, eqb-self, In}
 use Rattle.rules.proofs.Distinct.{isIn-in, distinct-tail, distinct-new, append-distinct}
 use Rattle.mapping.specs.declared.numbers.Item.{Item}
-use Rattle.mapping.specs.Numbers.{numbersAt, ItemAt}
+use Rattle.mapping.specs.Numbers.{numbersAt, endOf, ItemAt}
 use Rattle.mapping.specs.Stores.{Written, written, copying}
 use Rattle.mapping.specs.Shown.{CopyShown}
+use Rattle.mapping.proofs.NumberLaws.{list-ends}
 use Rattle.mapping.proofs.MarkLaws.{mapped-in, mapped-append}
 
 -- A TURN of storing the copies: what is left to store, stored in the tables as they are, is the whole
@@ -33,6 +35,8 @@ pub record Copying (bs : List ℕ) (at from note first : ℕ) (t₀ u₀ t u : L
   pub low : k + 2 * at ≤ first + 2 * i
   pub text : note < 2147483648 → first + 2 * length bs < 2147483648
       → copying note (numbersAt bs i) (numbersAt bs j) k t u ≡ copying note (numbersAt bs at) (numbersAt bs from) first t₀ u₀
+  pub copies-end : endOf bs i ≡ endOf bs at
+  pub existentials-end : endOf bs j ≡ endOf bs from
 
 module _ (bs : List ℕ) (at from note first : ℕ) (t₀ u₀ : List ℤ) where
   abbrev Stores : List ℤ → List ℤ → Type 0
@@ -40,18 +44,26 @@ module _ (bs : List ℕ) (at from note first : ℕ) (t₀ u₀ : List ℤ) where
       note < 2147483648 → first + 2 * length bs < 2147483648
       → written t u ≡ copying note (numbersAt bs at) (numbersAt bs from) first t₀ u₀
 
+  -- what is stored, and that both lists end with their zero if they are lists
+  abbrev Stored : ℕ → List ℤ → List ℤ → Type 0
+  Stored r t u = Stores t u × (isList bs at ≡ true → isList bs from ≡ true → r ≡ 0)
+
   pub copying-start : Copying bs at from note first t₀ u₀ t₀ u₀ at from first
-  copying-start = record { long = refl; wide = refl; low = omega arith; text = λ n l. refl }
+  copying-start = record { long = refl; wide = refl; low = omega arith; text = λ n l. refl; copies-end = refl; existentials-end = refl }
 
   module _ {t u : List ℤ} {i j k : ℕ} (s : Copying bs at from note first t₀ u₀ t u i j k) where
-    pub copying-end : ItemAt bs i Item.End → Stores t u
+    pub copying-end : {r : ℕ} → ItemAt bs i (Item.End r) → Stored r t u
     unfolding copying
-    copying-end e n l = sym (ap (λ ps. copying note ps (numbersAt bs j) k t u) e) ∙ s .text n l
+    copying-end e =
+        (λ n l. sym (ap (λ ps. copying note ps (numbersAt bs j) k t u) (e .0)) ∙ s .text n l, λ a b. e .1 ∙ s .copies-end ∙ list-ends bs at a)
 
     module _ {p a : ℕ} (o : ItemAt bs i (Item.Of p a)) where
-      pub copying-short : ItemAt bs j Item.End → Stores t u
+      pub copying-short : {r : ℕ} → ItemAt bs j (Item.End r) → Stored r t u
       unfolding copying
-      copying-short e n l = sym (ap₂ (λ ps es. copying note ps es k t u) (o .0) e) ∙ s .text n l
+      copying-short e = (
+        λ n l. sym (ap₂ (λ ps es. copying note ps es k t u) (o .0) (e .0)) ∙ s .text n l,
+        λ a b. e .1 ∙ s .existentials-end ∙ list-ends bs from b,
+      )
 
       pub copying-more : {e b : ℕ} {t₁ t₂ u₁ : List ℤ} → ItemAt bs j (Item.Of e b)
           → t₁ ≡ set t (k % 2147483648) (pos (e % 2147483648)) → t₂ ≡ set t₁ (k % 2147483648 + 1) (pos (note % 2147483648))
@@ -76,18 +88,24 @@ module _ (bs : List ℕ) (at from note first : ℕ) (t₀ u₀ : List ℤ) where
                 ap (λ w. copying note (numbersAt bs a) (numbersAt bs b) (w + 2) t₂ u₁) w
                 ∙ ap₂ (copying note (numbersAt bs a) (numbersAt bs b) (k + 2)) e₂ e₃
                 ∙ sym (ap₂ (λ ps es. copying note ps es k t u) (o .0) (q .0)) ∙ s .text n l;
+            copies-end = sym (o .5) ∙ s .copies-end;
+            existentials-end = sym (q .5) ∙ s .existentials-end;
           }
 
 -- the annotation, and then the copies
-pub storing : (bs : List ℕ) (at from notes m used : ℕ) (t u : List ℤ) {t₁ t₂ u₂ : List ℤ} → t₁ ≡ puts t (used % 2147483648) (codesAt bs notes)
-    → Stores bs at from (used % 2147483648) (used % 2147483648 + m % 2147483648 + 1) t₁ u t₂ u₂ → used + m + 1 + 2 * length bs < 2147483648
-    → written t₂ u₂ ≡ copying used (numbersAt bs at) (numbersAt bs from) (used + m + 1) (puts t used (codesAt bs notes)) u
-storing bs at from notes m used t u {t₁} {t₂} {u₂} e s l =
-    let w : used % 2147483648 ≡ used = stored (omega arith) in
-    let v : m % 2147483648 ≡ m = stored (omega arith) in
-    s (omega arith) (omega arith)
-    ∙ ap₂ (λ w v. copying w (numbersAt bs at) (numbersAt bs from) (w + v + 1) t₁ u) w v
-    ∙ ap (λ t. copying used (numbersAt bs at) (numbersAt bs from) (used + m + 1) t u) (e ∙ ap (λ w. puts t w (codesAt bs notes)) w)
+pub storing : (bs : List ℕ) (at from notes m used : ℕ) (t u : List ℤ) {t₁ t₂ u₂ : List ℤ} {r : ℕ} → t₁ ≡ puts t (used % 2147483648) (codesAt bs notes)
+    → Stored bs at from (used % 2147483648) (used % 2147483648 + m % 2147483648 + 1) t₁ u r t₂ u₂
+    → (isList bs at ≡ true → isList bs from ≡ true → r ≡ 0) × (used + m + 1 + 2 * length bs < 2147483648
+    → written t₂ u₂ ≡ copying used (numbersAt bs at) (numbersAt bs from) (used + m + 1) (puts t used (codesAt bs notes)) u)
+storing bs at from notes m used t u {t₁} {t₂} {u₂} e s = (
+  s .1,
+  λ l.
+      let w : used % 2147483648 ≡ used = stored (omega arith) in
+      let v : m % 2147483648 ≡ m = stored (omega arith) in
+      s .0 (omega arith) (omega arith)
+      ∙ ap₂ (λ w v. copying w (numbersAt bs at) (numbersAt bs from) (w + v + 1) t₁ u) w v
+      ∙ ap (λ t. copying used (numbersAt bs at) (numbersAt bs from) (used + m + 1) t u) (e ∙ ap (λ w. puts t w (codesAt bs notes)) w),
+)
 
 -- FRAMES
 pub copying-kept : (note : ℕ) (ps es : List ℕ) (k : ℕ) (t u : List ℤ) (need high : ℕ) → k + 2 * length ps ≤ need → inRange high ps ≡ true

@@ -14,9 +14,10 @@ use Rattle.lines.specs.Scan.{tokensFrom}
 use Rattle.cells.specs.Cells.{cellAt, listAt, Kept}
 use Rattle.cells.proofs.Laws.{stored, kept-chain, kept-later}
 use Rattle.prefix.specs.Prefix.{entry}
-use Rattle.lists.specs.Lists.{litsAt}
+use Rattle.lists.specs.Lists.{litsAt, isList}
 use Rattle.lists.specs.Stores.{codesAt, puts}
 use Rattle.lists.proofs.FormLaws.{Mapped as Lists}
+use Rattle.lists.proofs.ListLaws.{listing-list}
 use Rattle.lists.proofs.StoreLaws.{Stored, list-in-table}
 use Rattle.rules.specs.Basics.{distinct}
 use Rattle.rules.specs.Literals.{Lits, vars}
@@ -32,12 +33,13 @@ use Rattle.rules.proofs.ProperLaw.{proper-mapping}
 use Rattle.mapping.specs.declared.Mapped.{Mapped}
 use Rattle.mapping.specs.declared.Answer.{Answer}
 use Rattle.mapping.specs.declared.Answer.the-variants.{Next, Refuse}
-use Rattle.mapping.specs.Numbers.{numbersAt}
-use Rattle.mapping.specs.Marks.{marking, noting}
+use Rattle.mapping.specs.Numbers.{numbersAt, endOf, ruled}
+use Rattle.mapping.specs.Marks.{marking, noting, Notes}
 use Rattle.mapping.specs.Annotation.{annotates}
 use Rattle.mapping.specs.Stores.{Written, written, copying}
 use Rattle.mapping.specs.Shown.{MappingShown}
 use Rattle.mapping.specs.MappingLine.{ranged, roomy, early, Lent, after, refusal, Before, After, Unwritten, Leads, MappingLine}
+use Rattle.mapping.proofs.NumberLaws.{list-ends, ruled-kept, ruled-broken}
 use Rattle.mapping.proofs.MarkLaws.{noted-start}
 use Rattle.mapping.proofs.CopyLaws.{copying-kept, Taken, taken-later, apart-distinct, taken-copies}
 use Rattle.mapping.proofs.RuleLaws.{ps-long, es-long, ls-long, lists-long, range-rule, few, pass-l, ps-are, es-are, largest-is, ps-range, fresh-are, rules-are, noted-are}
@@ -236,13 +238,13 @@ module _ {bs : List ℕ} {at k m c e l i h : ℕ} (o : Lists bs at k m c e l i h
     rules-as f n b d test g =
         rules-are o v (b .low) (passed .inRange) (b .told) (b .shown .noted) notes (b .proper .once) test ∙ ap₂ (λ x y. 7 unless x then 8 unless y) d g
 
-    pub line-7 : r ≡ false → MappingLine bs at turn v s prefix t (Refuse 7) (marked-as t noted)
+    line-7 : r ≡ false → MappingLine bs at turn v s prefix t (Refuse 7) (marked-as t noted)
     line-7 d =
         line-formed bs at turn v s prefix t (o .form) (Refuse 7) (marked-as t noted)
         (λ f n b. led-late f n b passed (Refuse 7) (marked-as t noted) (rules-as f n b d refl refl) (refl, unwritten t noted)) refl refl
 
     module _ (fresh : r ≡ true) {a : Bool} (test : a ≡ annotates (entry prefix) (numbersAt bs i) (numbersAt bs h)) where
-      pub line-8 : a ≡ false → MappingLine bs at turn v s prefix t (Refuse 8) (marked-as t noted)
+      line-8 : a ≡ false → MappingLine bs at turn v s prefix t (Refuse 8) (marked-as t noted)
       line-8 d =
           line-formed bs at turn v s prefix t (o .form) (Refuse 8) (marked-as t noted)
           (λ f n b. led-late f n b passed (Refuse 8) (marked-as t noted) (rules-as f n b fresh test d) (refl, unwritten t noted)) refl refl
@@ -274,9 +276,55 @@ module _ {bs : List ℕ} {at k m c e l i h : ℕ} (o : Lists bs at k m c e l i h
                 ∙ ap₂ (λ ps es. copying (s .used) ps es (s .used + m + 1) (puts (t .map) (s .used) (codesAt bs h)) (t .values))
                 (ps-are o v (b .low) (passed .inRange)) (es-are o v (b .low) (passed .inRange))
 
-        pub line-next : {top : ℕ} → top ≡ high → length map′ ≡ length (t .map) → length values′ ≡ length (t .values)
+        line-next : {top : ℕ} → top ≡ high → length map′ ≡ length (t .map) → length values′ ≡ length (t .values)
             → MappingLine bs at turn v s prefix t (Next (record { used = need; largest = top })) u
         line-next {top} g =
             line-formed bs at turn v s prefix t (o .form) (Next (record { used = need; largest = top })) u
             (λ f n b. led-late f n b passed (Next (record { used = need; largest = top })) u (rules-as f n b fresh test good)
             (ap₂ (λ x y. record { used = x; largest = y }) (used-after f n b) (g ∙ largest-after f n b (passed .inRange)), accepted f n b))
+
+  -- the three lists end with their zeros
+  copies-list : isList bs at ≡ true
+  copies-list = listing-list bs at (o .copies)
+
+  existentials-list : isList bs i ≡ true
+  existentials-list = listing-list bs i (o .existentials)
+
+  annotation-list : isList bs h ≡ true
+  annotation-list = listing-list bs h (o .annotation .listing)
+
+  -- THE SAME by the refusals that the rules' functions answer
+  module _ (passed : Passed turn (ranged v c e l) roomThere) {p : ℕ} {noted : List ℕ}
+      (notes : Notes (numbersAt bs at) (t .noted) 7 (endOf bs at) p noted) where
+    abbrev free : Bool
+    free = noting (numbersAt bs at) (t .noted) .fresh
+
+    marked : marking free noted ≡ noting (numbersAt bs at) (t .noted)
+    marked = ap (marking free) (notes .marks)
+
+    pub line-taken : (p ≡ 0 → ⊥) → MappingLine bs at turn v s prefix t (Refuse p) (marked-as t noted)
+    line-taken k =
+        let b = ruled-broken (notes .answer) (list-ends bs at copies-list) k in
+        subst (λ n. MappingLine bs at turn v s prefix t (Refuse n) (marked-as t noted)) (sym (b .1)) (line-7 passed marked (b .0))
+
+    module _ (z : p ≡ 0) {a : ℕ}
+        (test : isList bs i ≡ true → isList bs h ≡ true → a ≡ ruled 8 (annotates (entry prefix) (numbersAt bs i) (numbersAt bs h)) 0) where
+      is-free : free ≡ true
+      is-free = ruled-kept (notes .answer) (list-ends bs at copies-list) (λ x. omega arith) z
+
+      pub line-unfit : (a ≡ 0 → ⊥) → MappingLine bs at turn v s prefix t (Refuse a) (marked-as t noted)
+      line-unfit k =
+          let b = ruled-broken (test existentials-list annotation-list) refl k in
+          subst (λ n. MappingLine bs at turn v s prefix t (Refuse n) (marked-as t noted)) (sym (b .1)) (line-8 passed marked is-free refl (b .0))
+
+      module _ (good : a ≡ 0) {r : ℕ} {map′ values′ : List ℤ} (writes : isList bs h ≡ true
+          → (isList bs at ≡ true → isList bs i ≡ true → r ≡ 0) × (s .used + m + 1 + 2 * length bs < 2147483648
+          → written map′ values′ ≡ copying (s .used) (numbersAt bs at) (numbersAt bs i) (s .used + m + 1) (puts (t .map) (s .used) (codesAt bs h)) (t .values))) where
+        pub line-stored : r ≡ 0
+        line-stored = writes annotation-list .0 copies-list existentials-list
+
+        pub line-good : {top : ℕ} → top ≡ high → length map′ ≡ length (t .map) → length values′ ≡ length (t .values)
+            → MappingLine bs at turn v s prefix t (Next (record { used = need; largest = top })) (record { map = map′; values = values′; noted = noted })
+        line-good =
+            line-next passed marked is-free refl (ruled-kept (test existentials-list annotation-list) refl (λ x. omega arith) good)
+            (writes annotation-list .1)

@@ -18,36 +18,49 @@ use Rattle.rules.proofs.Distinct.{in-isIn, isIn-in, distinct-tail, distinct-con
 use Rattle.lists.specs.Stores.{inRange}
 use Rattle.lists.proofs.ListLaws.{sign-low}
 use Rattle.mapping.specs.declared.numbers.Item.{Item}
-use Rattle.mapping.specs.Numbers.{numbersAt, ItemAt}
-use Rattle.mapping.specs.Marks.{isNoted, isFree, Marking, marking, noting}
+use Rattle.mapping.specs.Numbers.{numbersAt, endOf, ruled, ItemAt}
+use Rattle.mapping.specs.Marks.{isNoted, isFree, Marking, marking, noting, Notes}
 use Rattle.mapping.specs.Annotation.{once}
 use Rattle.mapping.specs.Shown.{NotedShown}
 
 -- A TURN: what is left to note, noted in the marks as they are, is the whole
-module _ (bs : List ℕ) (i : ℕ) (ns : List ℕ) {all : Marking} (h : noting (numbersAt bs i) ns ≡ all) where
-  pub noting-end : ItemAt bs i Item.End → marking true ns ≡ all
-  unfolding noting
-  noting-end e = ap (λ ps. noting ps ns) (sym e) ∙ h
+module _ (bs : List ℕ) (at i : ℕ) (ns₀ ns : List ℕ) (k : ℕ)
+    (h : (noting (numbersAt bs i) ns ≡ noting (numbersAt bs at) ns₀) × (endOf bs i ≡ endOf bs at)) where
+  noted : (b : Bool) {r : ℕ} → marking b ns ≡ noting (numbersAt bs i) ns → r ≡ ruled k b (endOf bs at)
+      → Notes (numbersAt bs at) ns₀ k (endOf bs at) r ns
+  noted b e q = record {
+    answer = q ∙ ap (λ (m : Marking). ruled k (m .fresh) (endOf bs at)) (e ∙ h .0);
+    marks = ap (λ (m : Marking). m .marks) (e ∙ h .0);
+  }
+
+  pub noting-end : {n : ℕ} → ItemAt bs i (Item.End n) → Notes (numbersAt bs at) ns₀ k (endOf bs at) n ns
+  unfolding noting ruled
+  noting-end e = noted true (ap (λ ps. noting ps ns) (sym (e .0))) (e .1 ∙ h .1)
 
   module _ {p a : ℕ} (o : ItemAt bs i (Item.Of p a)) where
     abbrev step : Bool → Marking
     step b = cond b (noting (numbersAt bs a) (set ns p 1)) (marking false ns)
 
-    one-copy : step (isFree ns p) ≡ all
+    one-copy : step (isFree ns p) ≡ noting (numbersAt bs i) ns
     unfolding noting
-    one-copy = ap (λ ps. noting ps ns) (sym (o .0)) ∙ h
+    one-copy = ap (λ ps. noting ps ns) (sym (o .0))
 
-    pub noting-high : 16384 < p → marking false ns ≡ all
-    unfolding isFree
-    noting-high l = ap (λ b. step (b && eqb (getD ns p 0) 0)) (sym (lt-leb p 16384 l)) ∙ one-copy
+    pub noting-high : 16384 < p → Notes (numbersAt bs at) ns₀ k (endOf bs at) k ns
+    unfolding isFree ruled
+    noting-high l = noted false (ap (λ b. step (b && eqb (getD ns p 0) 0)) (sym (lt-leb p 16384 l)) ∙ one-copy) refl
 
-    pub noting-old : (getD ns p 0 ≡ 0 → ⊥) → marking false ns ≡ all
-    unfolding isFree
-    noting-old n = ap step (sym (ap (λ b. leb p 16384 && b) (ne-eqb (getD ns p 0) 0 n) ∙ and-false (leb p 16384))) ∙ one-copy
+    pub noting-old : (getD ns p 0 ≡ 0 → ⊥) → Notes (numbersAt bs at) ns₀ k (endOf bs at) k ns
+    unfolding isFree ruled
+    noting-old n =
+        noted false (ap step (sym (ap (λ b. leb p 16384 && b) (ne-eqb (getD ns p 0) 0 n) ∙ and-false (leb p 16384))) ∙ one-copy) refl
 
-    pub noting-more : p ≤ 16384 → getD ns p 0 ≡ 0 → noting (numbersAt bs a) (set ns p 1) ≡ all
+    pub noting-more : p ≤ 16384 → getD ns p 0 ≡ 0
+        → (noting (numbersAt bs a) (set ns p 1) ≡ noting (numbersAt bs at) ns₀) × (endOf bs a ≡ endOf bs at)
     unfolding isFree
-    noting-more l z = ap₂ (λ b d. step (b && d)) (sym (le-leb p 16384 l)) (sym (eq-eqb (getD ns p 0) 0 z)) ∙ one-copy
+    noting-more l z = (
+      ap₂ (λ b d. step (b && d)) (sym (le-leb p 16384 l)) (sym (eq-eqb (getD ns p 0) 0 z)) ∙ one-copy ∙ h .0,
+      sym (o .5) ∙ h .1,
+    )
 
 -- THE MARKS OF A TEST: 1 where it passes, 0 elsewhere
 abbrev Marked : List ℕ → (ℕ → Bool) → Type 0
@@ -150,11 +163,14 @@ noting-long (p ∷ ps) ns = go (isFree ns p) (noting-long ps (set ns p 1))
 none-marked : Marked (replicate 16385 0) (isIn [])
 none-marked q b = getD-replicate 16385 q 0 0 (omega arith)
 
-pub once-noted : (us : List ℕ) {b : Bool} {ns : List ℕ} → marking b ns ≡ noting us (replicate 16385 0) → b ≡ once us
+once-noted : (us : List ℕ) → noting us (replicate 16385 0) .fresh ≡ once us
 unfolding once
-once-noted us e =
-    ap (λ (r : Marking). r .fresh) e ∙ noting-fresh us (replicate 16385 0) [] (length-replicate {A = ℕ} 16385 0) refl none-marked
+once-noted us =
+    noting-fresh us (replicate 16385 0) [] (length-replicate {A = ℕ} 16385 0) refl none-marked
     ∙ ap (λ l. all (λ u. leb u 16384) us && distinct l) (append-nil us)
+
+pub once-ruled : (us : List ℕ) {k e r : ℕ} {ns : List ℕ} → Notes us (replicate 16385 0) k e r ns → r ≡ ruled k (once us) e
+once-ruled us {k} {e} n = n .answer ∙ ap (λ b. ruled k b e) (once-noted us)
 
 -- THE MARKS AND THE MAPPING
 pub mapped-in : (m : List Copy) (p : ℕ) → isIn (copyVars m) p ≡ isMapped m p

@@ -16,24 +16,40 @@ use Rattle.lines.proofs.Words.{Told, Coded, literal-told, literal-lost}
 use Rattle.rules.specs.Basics.{greatest}
 use Rattle.rules.specs.Literals.{pos, neg, Lits, vars}
 use Rattle.rules.specs.Forms.{upToZero, literal}
-use Rattle.lists.specs.Lists.{litsAt}
-use Rattle.lists.proofs.ListLaws.{upto-zero, upto-more, pair-parts, ahead-some, Listing}
+use Rattle.lists.specs.Lists.{litsAt, isList}
+use Rattle.lists.proofs.ListLaws.{upto-zero, upto-more, pair-parts, ahead-some, Listing, is-lost, is-end, is-more}
 use Rattle.mapping.specs.declared.numbers.Item.{Item}
-use Rattle.mapping.specs.Numbers.{numbersIn, numbersAt, ItemAt}
+use Rattle.mapping.specs.Numbers.{numbersIn, numbersAt, endOf, ruled, ItemAt}
+
+-- THE END OF A LIST
+end-bad : (bs : List ℕ) (i : ℕ) → isList bs i ≡ false → 2 ≡ endOf bs i
+unfolding endOf
+end-bad bs i e = sym (ap (λ b. cond b 0 2) e)
+
+end-zero : (bs : List ℕ) (i : ℕ) → isList bs i ≡ true → 0 ≡ endOf bs i
+unfolding endOf
+end-zero bs i e = sym (ap (λ b. cond b 0 2) e)
+
+end-same : (bs : List ℕ) (i j : ℕ) → isList bs i ≡ isList bs j → endOf bs i ≡ endOf bs j
+unfolding endOf
+end-same bs i j e = ap (λ b. cond b 0 2) e
+
+pub list-ends : (bs : List ℕ) (at : ℕ) → isList bs at ≡ true → endOf bs at ≡ 0
+list-ends bs at e = sym (end-zero bs at e)
 
 -- THE NEXT NUMBER
 module _ (bs : List ℕ) (i : ℕ) where
-  pub item-lost : literalAt bs i ≡ Literal.Bad → ItemAt bs i Item.End
+  pub item-lost : literalAt bs i ≡ Literal.Bad → ItemAt bs i (Item.End 2)
   unfolding numbersAt numbersIn
-  item-lost p = ⊎-elim (λ e. ap numbersIn e) (λ w. ap numbersIn (w .2)) (literal-lost bs i p)
+  item-lost p = (⊎-elim (λ e. ap numbersIn e) (λ w. ap numbersIn (w .2)) (literal-lost bs i p), end-bad bs i (is-lost bs i p))
 
   module _ {x e : ℕ} (p : literalAt bs i ≡ Literal.Of x e) where
     told : Told bs i x e
     told = literal-told bs i p
 
-    pub item-end : x ≡ 0 → ItemAt bs i Item.End
+    pub item-end : x ≡ 0 → ItemAt bs i (Item.End 0)
     unfolding numbersAt numbersIn
-    item-end z = go (told .token) (told .code) (told .first)
+    item-end z = (go (told .token) (told .code) (told .first), end-zero bs i (is-end bs i p z))
       where
         go : (t : Token) → Coded t x → tokensFrom bs i ≡ t ∷ tokensFrom bs e → numbersIn (tokensFrom bs i) ≡ []
         go (number n) c f = ap numbersIn f ∙ ap (λ b. cond b [] (min cap n ∷ numbersIn (tokensFrom bs e))) (eq-eqb n 0 (omega arith))
@@ -53,32 +69,57 @@ module _ (bs : List ℕ) (i : ℕ) where
               omega arith,
               told .further,
               told .within,
+              end-same bs i e (is-more bs i p z),
             )
         go (minus n) c f =
             let h : n ≡ 0 → ⊥ = c .1 in
             let d = c .0 in
             let v : min cap n ≡ x / 2 = omega arith in
-            (ap numbersIn f ∙ ap (λ v. v ∷ numbersIn (tokensFrom bs e)) v, omega arith, omega arith, told .further, told .within)
+            (ap numbersIn f ∙ ap (λ v. v ∷ numbersIn (tokensFrom bs e)) v, omega arith, omega arith, told .further, told .within, end-same bs i e (is-more bs i p z))
         go (word w) c f = absurd c
 
 -- what the reader's answer tells
 pub item-told : (bs : List ℕ) (i : ℕ) {r s : Item} → r ≡ s → ItemAt bs i r → ItemAt bs i s
 item-told bs i e h = subst (ItemAt bs i) e h
 
+-- A RULE'S REFUSAL, where the list ends with its zero
+module _ {n k e : ℕ} {b : Bool} (q : n ≡ ruled k b e) where
+  pub ruled-kept : e ≡ 0 → (k ≡ 0 → ⊥) → n ≡ 0 → b ≡ true
+  unfolding ruled
+  ruled-kept z h w = go b q
+    where
+      go : (b : Bool) → n ≡ cond b e k → b ≡ true
+      go true q = refl
+      go false q = absurd (h (sym q ∙ w))
+
+  pub ruled-broken : e ≡ 0 → (n ≡ 0 → ⊥) → (b ≡ false) × (n ≡ k)
+  unfolding ruled
+  ruled-broken z w = go b q
+    where
+      go : (b : Bool) → n ≡ cond b e k → (b ≡ false) × (n ≡ k)
+      go true q = absurd (w (q ∙ z))
+      go false q = (refl, q)
+
+pub ruled-no : (k e : ℕ) {b : Bool} → b ≡ false → k ≡ ruled k b e
+unfolding ruled
+ruled-no k e q = sym (ap (λ b. cond b e k) q)
+
 -- A test of every number of a list, one by one
-module _ (P : ℕ → Bool) (bs : List ℕ) (at i : ℕ) (h : all P (numbersAt bs i) ≡ all P (numbersAt bs at)) where
-  pub all-end : ItemAt bs i Item.End → true ≡ all P (numbersAt bs at)
-  all-end e = ap (all P) (sym e) ∙ h
+module _ (k : ℕ) (P : ℕ → Bool) (bs : List ℕ) (at i : ℕ) (h : (all P (numbersAt bs i) ≡ all P (numbersAt bs at)) × (endOf bs i ≡ endOf bs at)) where
+  pub all-end : {n : ℕ} → ItemAt bs i (Item.End n) → n ≡ ruled k (all P (numbersAt bs at)) (endOf bs at)
+  unfolding ruled
+  all-end e = e .1 ∙ h .1 ∙ ap (λ b. cond b (endOf bs at) k) (ap (all P) (sym (e .0)) ∙ h .0)
 
   module _ {v a : ℕ} (o : ItemAt bs i (Item.Of v a)) where
     head : {b : Bool} → P v ≡ b → b && all P (numbersAt bs a) ≡ all P (numbersAt bs at)
-    head t = ap (λ b. b && all P (numbersAt bs a)) (sym t) ∙ ap (all P) (sym (o .0)) ∙ h
+    head t = ap (λ b. b && all P (numbersAt bs a)) (sym t) ∙ ap (all P) (sym (o .0)) ∙ h .0
 
-    pub all-more : P v ≡ true → all P (numbersAt bs a) ≡ all P (numbersAt bs at)
-    all-more t = head t
+    pub all-more : P v ≡ true → (all P (numbersAt bs a) ≡ all P (numbersAt bs at)) × (endOf bs a ≡ endOf bs at)
+    all-more t = (head t, sym (o .5) ∙ h .1)
 
-    pub all-fails : P v ≡ false → false ≡ all P (numbersAt bs at)
-    all-fails t = head t
+    pub all-fails : P v ≡ false → k ≡ ruled k (all P (numbersAt bs at)) (endOf bs at)
+    unfolding ruled
+    all-fails t = ap (λ b. cond b (endOf bs at) k) (head t)
 
 -- A LIST THAT THE FIRST PASS HAS READ
 numbers-read : (ts : List Token) (c : Lits) (rest : List Token) → upToZero literal ts ≡ some (c, rest) → greatest (vars c) ≤ cap → numbersIn ts ≡ vars c

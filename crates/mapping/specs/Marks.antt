@@ -1,9 +1,11 @@
 -- The marks of the copies: place p holds 0 if copy p is not mapped. Assumes nothing.
+use mathlib.Core.Path.{_≡_}
 use mathlib.Core.Bool.{Bool, true, false, not, _&&_, cond}
 use mathlib.Core.List.{List, [], _∷_}
 use Prim.Native.Nat.{ℕ}
 use lib.Dec.{eqb, leb}
 use lib.ListN.{getD, set}
+use Rattle.mapping.specs.Numbers.{ruled}
 
 unfoldable pub isNoted : List ℕ → ℕ → Bool
 isNoted ns p = leb p 16384 && not (eqb (getD ns p 0) 0)
@@ -22,3 +24,8 @@ marking b ns = record { fresh = b; marks = ns }
 unfoldable pub noting : List ℕ → List ℕ → Marking
 noting [] ns = marking true ns
 noting (p ∷ ps) ns = cond (isFree ns p) (noting ps (set ns p 1)) (marking false ns)
+
+-- what noting says, as the refusal of a rule with number k, and the marks then; `end` is what the list's end is
+pub record Notes (ps ns : List ℕ) (k end r : ℕ) (ns′ : List ℕ) : Type 0 where
+  pub answer : r ≡ ruled k (noting ps ns .fresh) end
+  pub marks : ns′ ≡ noting ps ns .marks

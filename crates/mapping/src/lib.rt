@@ -98,15 +98,20 @@ pub fn mapping_line(
     if n != 0 {
         return Answer::Refuse(n);
     }
-    if fresh(line, at, noted) {
-        if annotates(line, i, h, prefix) {
-            store(line, at, i, h, m, state.used, map, values);
-            return Answer::Next(Mapped {
-                used: need,
-                largest: high,
-            });
-        }
-        return Answer::Refuse(8);
+    let p = fresh(line, at, noted);
+    if p != 0 {
+        return Answer::Refuse(p);
     }
-    Answer::Refuse(7)
+    let q = annotates(line, i, h, prefix);
+    if q != 0 {
+        return Answer::Refuse(q);
+    }
+    let z = store(line, at, i, h, m, state.used, map, values);
+    if z != 0 {
+        return Answer::Refuse(z);
+    }
+    Answer::Next(Mapped {
+        used: need,
+        largest: high,
+    })
 }

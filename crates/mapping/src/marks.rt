@@ -1,8 +1,8 @@
 // Rule 7: which copies are mapped.
 ghost use mathlib.Core.Path.{_≡_};
 ghost use Prim.Native.Nat.{_/_};
-ghost use Rattle.mapping.specs.Numbers.{numbersAt};
-ghost use Rattle.mapping.specs.Marks.{isNoted, noting, marking};
+ghost use Rattle.mapping.specs.Numbers.{numbersAt, endOf};
+ghost use Rattle.mapping.specs.Marks.{isNoted, Notes};
 use crate::COPIES;
 use crate::Noted;
 use crate::numbers::Item;
@@ -19,22 +19,31 @@ pub fn is_mapped(noted: &Noted, x: u32) -> bool
     noted[p] != 0
 }
 
-// Notes the copies of the list at `at`: false at one that is noted already or above 16384.
-pub fn fresh(line: &[u8], at: usize, noted: &mut Noted) -> bool
-    ensures { λ r. ⌜ marking r (now (noted .exit)) ≡ noting (numbersAt (now (line .entry)) at) (now (noted .entry)) ⌝ }
+// Notes the variables of the list at `at`. The refusal: k at one that is noted already or above 16384, 2 at a token that is no literal.
+pub fn note(line: &[u8], at: usize, noted: &mut Noted, k: u32) -> u32
+    ensures { λ r. ⌜ Notes (numbersAt (now (line .entry)) at) (now (noted .entry)) k (endOf (now (line .entry)) at) r (now (noted .exit)) ⌝ }
 {
     let mut i = at;
     loop {
-        let Item::Of(p, a) = item_at(line, i) else {
-            return true;
-        };
-        if COPIES < p {
-            return false;
+        match item_at(line, i) {
+            Item::End(n) => return n,
+            Item::Of(p, a) => {
+                if COPIES < p {
+                    return k;
+                }
+                if noted[p] != 0 {
+                    return k;
+                }
+                noted[p] = 1;
+                i = a;
+            }
         }
-        if noted[p] != 0 {
-            return false;
-        }
-        noted[p] = 1;
-        i = a;
     }
+}
+
+// Rule 7: the copies of the list at `at` are noted.
+pub fn fresh(line: &[u8], at: usize, noted: &mut Noted) -> u32
+    ensures { λ r. ⌜ Notes (numbersAt (now (line .entry)) at) (now (noted .entry)) 7 (endOf (now (line .entry)) at) r (now (noted .exit)) ⌝ }
+{
+    note(line, at, noted, 7)
 }

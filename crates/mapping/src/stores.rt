@@ -3,14 +3,17 @@
 ghost use mathlib.Core.Path.{_≡_};
 ghost use Prim.Native.Nat.{_+_, _*_, _<_};
 ghost use lib.ListN.{length};
+ghost use mathlib.Core.Bool.{true};
+ghost use Rattle.lists.specs.Lists.{isList};
 ghost use Rattle.lists.specs.Stores.{codesAt, puts};
 ghost use Rattle.mapping.specs.Numbers.{numbersAt};
 ghost use Rattle.mapping.specs.Stores.{copying, written};
 use crate::PLACES;
 use crate::numbers::Item;
 use crate::numbers::item_at;
+use lists::Ending;
 
-// The copies at `at`, with their existentials at `from`, from place `first` of the map on.
+// The copies at `at`, with their existentials at `from`, from place `first` of the map on. The refusal: 2 at a token that is no literal.
 fn put_copies(
     line: &[u8],
     at: usize,
@@ -19,32 +22,35 @@ fn put_copies(
     first: usize,
     map: &mut [i32],
     values: &mut [i32],
-)
-    ensures { λ _. ⌜ (note < 2147483648 → first + 2 * length (now (line .entry)) < 2147483648
+) -> u32
+    ensures { λ r. ⌜ (note < 2147483648 → first + 2 * length (now (line .entry)) < 2147483648
         → written (now (map .exit)) (now (values .exit))
-        ≡ copying note (numbersAt (now (line .entry)) at) (numbersAt (now (line .entry)) from) first (now (map .entry)) (now (values .entry))) ⌝ }
+        ≡ copying note (numbersAt (now (line .entry)) at) (numbersAt (now (line .entry)) from) first (now (map .entry)) (now (values .entry)))
+        × (isList (now (line .entry)) at ≡ true → isList (now (line .entry)) from ≡ true → r ≡ 0) ⌝ }
 {
     let mut i = at;
     let mut j = from;
     let mut k = first;
     loop {
-        let Item::Of(p, a) = item_at(line, i) else {
-            return;
-        };
-        let Item::Of(e, b) = item_at(line, j) else {
-            return;
-        };
-        let w = k % PLACES;
-        cells::put(map, w, e as u32);
-        cells::put(map, w + 1, note);
-        cells::put(values, p - 1, w as u32);
-        i = a;
-        j = b;
-        k = w + 2;
+        match item_at(line, i) {
+            Item::End(n) => return n,
+            Item::Of(p, a) => match item_at(line, j) {
+                Item::End(n) => return n,
+                Item::Of(e, b) => {
+                    let w = k % PLACES;
+                    cells::put(map, w, e as u32);
+                    cells::put(map, w + 1, note);
+                    cells::put(values, p - 1, w as u32);
+                    i = a;
+                    j = b;
+                    k = w + 2;
+                }
+            },
+        }
     }
 }
 
-// The m literals of the annotation at `notes`, from place `used` of the map on, and after them the copies.
+// The m literals of the annotation at `notes`, from place `used` of the map on, and after them the copies. The refusal: as above.
 pub fn store(
     line: &[u8],
     at: usize,
@@ -54,14 +60,18 @@ pub fn store(
     used: usize,
     map: &mut [i32],
     values: &mut [i32],
-)
-    ensures { λ _. ⌜ (used + m + 1 + 2 * length (now (line .entry)) < 2147483648
+) -> u32
+    ensures { λ r. ⌜ (isList (now (line .entry)) notes ≡ true
+        → (isList (now (line .entry)) at ≡ true → isList (now (line .entry)) from ≡ true → r ≡ 0)
+        × (used + m + 1 + 2 * length (now (line .entry)) < 2147483648
         → written (now (map .exit)) (now (values .exit))
         ≡ copying used (numbersAt (now (line .entry)) at) (numbersAt (now (line .entry)) from) (used + m + 1)
-        (puts (now (map .entry)) used (codesAt (now (line .entry)) notes)) (now (values .entry))) ⌝ }
+        (puts (now (map .entry)) used (codesAt (now (line .entry)) notes)) (now (values .entry)))) ⌝ }
 {
     let note = used % PLACES;
-    lists::store_list(line, notes, map, note);
+    let Ending::Zero = lists::store_list(line, notes, map, note) else {
+        return 2;
+    };
     put_copies(
         line,
         at,
@@ -70,5 +80,5 @@ pub fn store(
         note + m % PLACES + 1,
         map,
         values,
-    );
+    )
 }

@@ -18,8 +18,9 @@ use Rattle.propagation.specs.declared.Scan.the-variants as scan
 use Rattle.propagation.specs.declared.Propagated.{Propagated}
 use Rattle.propagation.specs.declared.Propagated.the-variants as propagated
 use Rattle.clauses.specs.Standing.{stands, clauseAt, standing}
-use Rattle.propagation.specs.Trail.{In, Closed, Good, off, truth, Saw, Ready, Moved, Clash, Visited, Turned, Scanned, Settled}
-use Rattle.propagation.proofs.TrailLaws.{moved-trans}
+use Rattle.trail.specs.Trail.{off, truth, Ready}
+use Rattle.propagation.specs.Answers.{In, Closed, Good, Saw, Moved, Clash, Visited, Turned, Scanned, Settled}
+use Rattle.propagation.proofs.MoveLaws.{moved-trans}
 use Rattle.clauses.proofs.StandingLaws.{standing-out}
 
 module _ {S : List (List ℕ)} {f₀ t₀ : List ℕ} {n₀ : ℕ} {f t : List ℕ} where

@@ -13,8 +13,10 @@ use Rattle.propagation.specs.declared.looks.Look.{Look}
 use Rattle.propagation.specs.declared.looks.Look.the-variants as look
 use Rattle.propagation.specs.declared.Turn.the-variants as turn
 use Rattle.propagation.specs.declared.Scan.the-variants as scan
-use Rattle.propagation.specs.Trail.{In, truth, Saw, Sought, Shape, Assumed, Ready, Turned, Scanned}
-use Rattle.propagation.proofs.TrailLaws.{flip-small, moved-refl, moved-unit, read-clash, closed-open, closed-unit}
+use Rattle.trail.specs.Trail.{truth, Shape, Assumed, Ready}
+use Rattle.propagation.specs.Answers.{In, Saw, Sought, Turned, Scanned}
+use Rattle.trail.proofs.TrailLaws.{flip-small}
+use Rattle.propagation.proofs.MoveLaws.{moved-refl, moved-unit, read-clash, closed-open, closed-unit}
 use Rattle.propagation.proofs.AnswerLaws.{Scanning, scanning-on}
 
 -- it stands, is read from c on, and f holds the values

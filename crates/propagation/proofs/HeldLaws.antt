@@ -10,7 +10,8 @@ use Rattle.rules.specs.Literals.{Lits}
 use Rattle.rules.specs.Codes.{flip}
 use Rattle.propagation.specs.declared.Turn.{Turn}
 use Rattle.propagation.specs.declared.Turn.the-variants as turn
-use Rattle.propagation.specs.Trail.{In, Good, Ready, Holds, Moved, Turned, Held}
+use Rattle.trail.specs.Trail.{Ready}
+use Rattle.propagation.specs.Answers.{In, Good, Holds, Moved, Turned, Held}
 use Rattle.propagation.proofs.AnswerLaws.{turned-clash, turned-moved}
 
 module _ {S : List (List ℕ)} where

@@ -1,5 +1,5 @@
 -- Laws of crate propagation.
-pub mod TrailLaws
+pub mod MoveLaws
 pub mod AnswerLaws
 pub mod ClauseLaws
 pub mod HeldLaws

@@ -1,2 +1,2 @@
 -- What the contracts of crate propagation say.
-pub mod Trail
+pub mod Answers

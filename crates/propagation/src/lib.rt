@@ -1,7 +1,8 @@
 // Unit propagation over the standing clauses, in any order of units, and what follows from them alone.
 ghost use Prim.Native.Nat.{_<_};
 ghost use Rattle.clauses.specs.Standing.{standingIn};
-ghost use Rattle.propagation.specs.Trail.{Scanned, ReadyIn, VisitedIn, TurnedIn, SettledIn, HeldIn};
+ghost use Rattle.trail.specs.Trail.{ReadyIn};
+ghost use Rattle.propagation.specs.Answers.{Scanned, VisitedIn, TurnedIn, SettledIn, HeldIn};
 use cells::wide;
 use clauses::clause;
 use clauses::stands;
@@ -22,10 +23,12 @@ use watches::watch;
 use watches::watch_instead;
 
 mod looks;
-pub mod trail;
 mod watches;
 
-pub type Watches = [u32; 327680];
+pub type Watches = [u32; 458752];
+
+// Ends each list of watches; at the start all of them are empty.
+pub const END: u32 = 4294967295;
 
 // Following watches: the trail's length, after a conflict or so far.
 pub enum Visit {
@@ -102,15 +105,12 @@ fn walk(
         (falses .entry) (trail .entry) from (falses .exit) (trail .exit) r) ⌝ }
 {
     let mut n = from;
-    let mut before: u32 = 0;
+    let mut before: u32 = END;
     let mut p = first(watches, l);
     let mut steps: u32 = 262144;
     while 0 < steps {
         steps -= 1;
-        if p < 2 {
-            return Visit::Go(n);
-        }
-        let k = wide(p / 2 - 1);
+        let k = wide(p / 2);
         if count <= k {
             return Visit::Go(n);
         }

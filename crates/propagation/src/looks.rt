@@ -1,12 +1,12 @@
 // Reading a clause under the values.
 ghost use mathlib.Core.Path.{_≡_};
 ghost use Rattle.clauses.specs.Standing.{literalsIn};
-ghost use Rattle.propagation.specs.Trail.{lookOf, Saw, Sought};
-use crate::trail::Falses;
-use crate::trail::is_off;
+ghost use Rattle.propagation.specs.Answers.{lookOf, Saw, Sought};
 use clauses::Cursor;
 use clauses::after;
 use clauses::literal;
+use trail::Falses;
+use trail::is_off;
 
 // The distinct literals of a clause that are not false: none, one, or two of more.
 pub enum Look {

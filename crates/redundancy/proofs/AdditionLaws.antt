@@ -20,9 +20,10 @@ use Rattle.propagation.specs.declared.Visit.the-variants as visit
 use Rattle.propagation.specs.declared.Propagated.{Propagated}
 use Rattle.propagation.specs.declared.Propagated.the-variants as propagated
 use Rattle.clauses.specs.Standing.{stands, clauseAt, standing, literals}
-use Rattle.propagation.specs.Trail.{Good, Denies, truth, Ready, Undone, Holds, Moved, Clash, Visited, Held}
+use Rattle.trail.specs.Trail.{truth, Ready, Undone}
+use Rattle.propagation.specs.Answers.{Good, Denies, Holds, Moved, Clash, Visited, Held}
 use Rattle.redundancy.specs.Additions.{rupOf, ratOn, ratOf, accepts, lessCode, Both, Refuted, Follows, Tried, Decided}
-use Rattle.propagation.proofs.TrailLaws.{ready-undone}
+use Rattle.trail.proofs.TrailLaws.{ready-undone}
 use Rattle.clauses.proofs.StandingLaws.{standing-in, standing-out}
 use Rattle.propagation.proofs.AnswerLaws.{visited-clash, visited-moved}
 use Rattle.propagation.proofs.HeldLaws.{held-moved, held-kept}

@@ -13,7 +13,7 @@ use Rattle.rules.proofs.Kit.{either}
 use Rattle.rules.proofs.CodesLaw.{code-lit, code-negate, lit-flip, same-code}
 use Rattle.rules.proofs.Good as rules
 use Rattle.clauses.specs.Standing.{literals}
-use Rattle.propagation.specs.Trail.{In, Good, Denies}
+use Rattle.propagation.specs.Answers.{In, Good, Denies}
 use Rattle.redundancy.specs.Additions.{rupOf, lessCode}
 
 -- MEMBERS OF A MAPPED LIST

@@ -16,12 +16,13 @@ use Rattle.lines.specs.Lists.{all, any}
 use Rattle.rules.specs.Basics.{isIn, withoutFirst}
 use Rattle.rules.specs.Literals.{Lit, Lits, within, sameSet, holds}
 use Rattle.rules.specs.Codes.{codeOf, litOf}
-use Rattle.rules.proofs.Kit.{clear, by-yes, or-l, or-r, or-cases, or-fl, or-fr, either, all-in, in-all, in-any, any-in, eqb-eq, eqb-self}
+use Rattle.rules.proofs.Kit.{clear, and-l, and-r, by-yes, or-l, or-r, or-cases, or-fl, or-fr, either, all-in, in-all, in-any, any-in, eqb-eq, eqb-self}
 use Rattle.rules.proofs.CodesLaw.{lit-code}
-use Rattle.clauses.specs.Standing.{stands, clauseAt, standing, literals, marksNeed, removed}
-use Rattle.propagation.specs.Trail.{In, off, Trailed, Assumed}
-use Rattle.redundancy.specs.Deletions.{Listed, MoreBy, sameAs, NoneBelow, Deleted}
-use Rattle.propagation.proofs.TrailLaws.{trailed-assume, assumed-off, assumed-more, assumed-fewer, assumed-kept, assumed-last}
+use Rattle.clauses.specs.Standing.{stands, NoneIn, clauseAt, standing, literals, marksNeed, removed}
+use Rattle.trail.specs.Trail.{off, Trailed, Assumed}
+use Rattle.propagation.specs.Answers.{In}
+use Rattle.redundancy.specs.Deletions.{Listed, MoreBy, sameAs, NoneBelow, Unmarked, Deleted}
+use Rattle.trail.proofs.TrailLaws.{trailed-assume, assumed-off, assumed-more, assumed-fewer, assumed-kept, assumed-last}
 use Rattle.clauses.proofs.StandingLaws.{standing-out, removed-kept, removed-filled, removed-any, removed-standing}
 use Rattle.redundancy.proofs.BridgeLaws.{in-map, map-in, holds-lit}
 
@@ -176,6 +177,19 @@ module _ (c : List ℕ) (t ms : List ℤ) (count : ℕ) where
     taking-end true w h = w .1
     taking-end false w h = subst (λ (m : List ℤ). Deleted c t ms m count false) (sym (w .0)) (deleted-none (λ j lt. w .1 j (omega arith)))
 
+    -- past clauses with a literal that is not among the listed ones
+    pub taking-pass : (f tr : List ℕ) (m : ℕ) → Listed f tr m → c ≡ take m tr
+        → (found : Bool) → Taking ms′ k found → (n : ℕ) → k ≤ n → Unmarked f t ms′ k n → Taking ms′ n found
+    unfolding Taking NoneBelow Unmarked
+    taking-pass f tr m h e true w n le u = (omega (arith, w .0), w .1)
+    taking-pass f tr m h e false w n le u = (w .0, λ j lt on. go j lt on (leb k j) refl)
+      where
+        go : (j : ℕ) → j < n → stands t ms j ≡ true → (b : Bool) → leb k j ≡ b → sameAs c (clauseAt t ms j) ≡ false
+        go j lt on true q =
+            let a = subst (λ (x : List ℤ). stands t x j ≡ true → all (off f) (clauseAt t x j) ≡ false) (w .0) (u j (leb-true k j q) lt) on in
+            ap (λ (x : List ℕ). sameAs x (clauseAt t ms j)) e ∙ sym (same-no f tr m h (clauseAt t ms j) false (sym a) refl)
+        go j lt on false q = w .1 j (leb-false k j q) on
+
     module _ (lt : k < count) where
       next : (found : Bool) → Taking ms′ k found → (stands t ms′ k ≡ true → sameAs c (clauseAt t ms′ k) ≡ false) → Taking ms′ (k + 1) found
       unfolding Taking NoneBelow
@@ -186,22 +200,55 @@ module _ (c : List ℕ) (t ms : List ℤ) (count : ℕ) where
             (subst (λ (m : List ℤ). stands t m k ≡ true → sameAs c (clauseAt t m k) ≡ false) (w .0) h),
       )
 
-      pub taking-off : (found : Bool) → Taking ms′ k found → stands t ms′ k ≡ false → Taking ms′ (k + 1) found
-      taking-off found w z = next found w (λ on. absurd (clear on z))
-
-      module _ (d : List ℕ) (ed : d ≡ clauseAt t ms′ k) (r : Bool) (er : r ≡ sameAs c d) where
+      module _ (r : Bool) (er : r ≡ (stands t ms′ k && sameAs c (clauseAt t ms′ k))) where
         pub taking-no : (found : Bool) → Taking ms′ k found → r ≡ false → Taking ms′ (k + 1) found
-        taking-no found w z = next found w (λ on. sym (er ∙ ap (sameAs c) ed) ∙ z)
+        taking-no found w z =
+            next found w (λ on. sym (ap (λ b. b && sameAs c (clauseAt t ms′ k)) on) ∙ sym er ∙ z)
 
-        pub taking-at : (found : Bool) → Taking ms′ k found → stands t ms′ k ≡ true → r ≡ true → {ms″ : List ℤ} → ms″ ≡ removed k ms′ → Taking ms″ count true
+        pub taking-at : (found : Bool) → Taking ms′ k found → r ≡ true → {ms″ : List ℤ} → ms″ ≡ removed k ms′ → Taking ms″ count true
         unfolding Taking
-        taking-at true w on z e = absurd (omega (arith, w .0))
-        taking-at false w on z e = (
+        taking-at true w z e = absurd (omega (arith, w .0))
+        taking-at false w z e = (
           omega arith,
           subst (λ (m : List ℤ). Deleted c t ms m count true) (sym (e ∙ ap (removed k) (w .0)))
-              (deleted-at k lt (ap (λ (m : List ℤ). stands t m k) (sym (w .0)) ∙ on)
-              (ap (λ (m : List ℤ). sameAs c (clauseAt t m k)) (sym (w .0)) ∙ sym (er ∙ ap (sameAs c) ed) ∙ z) (w .1)),
+              (deleted-at k lt (ap (λ (m : List ℤ). stands t m k) (sym (w .0)) ∙ and-l (stands t ms′ k) (sameAs c (clauseAt t ms′ k)) (sym er ∙ z))
+              (ap (λ (m : List ℤ). sameAs c (clauseAt t m k)) (sym (w .0)) ∙ and-r (stands t ms′ k) (sameAs c (clauseAt t ms′ k)) (sym er ∙ z)) (w .1)),
         )
+
+-- A CLAUSE OF THE SAME SET AT A PLACE
+module _ (c : List ℕ) (t ms : List ℤ) (k : ℕ) where
+  pub there-yes : {d : List ℕ} {r : Bool} → d ≡ clauseAt t ms k → r ≡ sameAs c d → stands t ms k ≡ true → r ≡ (stands t ms k && sameAs c (clauseAt t ms k))
+  there-yes e q on = q ∙ ap (sameAs c) e ∙ sym (ap (λ b. b && sameAs c (clauseAt t ms k)) on)
+
+  pub there-no : stands t ms k ≡ false → false ≡ (stands t ms k && sameAs c (clauseAt t ms k))
+  there-no z = sym (ap (λ b. b && sameAs c (clauseAt t ms k)) z)
+
+-- PASSING OVER PLACES
+module _ (f : List ℕ) (t ms : List ℤ) (k : ℕ) where
+  pub unmarked-start : Unmarked f t ms k k
+  unfolding Unmarked
+  unmarked-start j a b = absurd (omega arith)
+
+  module _ (n : ℕ) (u : Unmarked f t ms k n) where
+    unmarked-one : (stands t ms n ≡ true → all (off f) (clauseAt t ms n) ≡ false) → Unmarked f t ms k (n + 1)
+    unfolding Unmarked
+    unmarked-one h j a b = go (leb n j) refl
+      where
+        go : (x : Bool) → leb n j ≡ x → stands t ms j ≡ true → all (off f) (clauseAt t ms j) ≡ false
+        go true q = let e : j ≡ n = (let z = leb-true n j q in omega arith) in
+            subst (λ i. stands t ms i ≡ true → all (off f) (clauseAt t ms i) ≡ false) (sym e) h
+        go false q = u j a (leb-false n j q)
+
+    pub unmarked-no : (d : List ℕ) → d ≡ clauseAt t ms n → {r : Bool} → r ≡ all (off f) d → r ≡ false → Unmarked f t ms k (n + 1)
+    unmarked-no d e q z = unmarked-one (λ on. ap (all (off f)) (sym e) ∙ sym q ∙ z)
+
+    pub unmarked-skip : stands t ms n ≡ false → (m : ℕ) → n + 1 ≤ m → NoneIn t ms (n + 1) m → Unmarked f t ms k m
+    unfolding Unmarked NoneIn
+    unmarked-skip z m le h j a b = go (leb (n + 1) j) refl
+      where
+        go : (x : Bool) → leb (n + 1) j ≡ x → stands t ms j ≡ true → all (off f) (clauseAt t ms j) ≡ false
+        go true q on = absurd (clear on (h j (leb-true (n + 1) j q) b))
+        go false q on = unmarked-one (λ y. absurd (clear y z)) j a (leb-false (n + 1) j q) on
 
 -- LISTING the literals of the deleted clause, one by one
 pub listed-start : (f t : List ℕ) → Trailed f t 0 → Listed f t 0

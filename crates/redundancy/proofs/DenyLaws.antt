@@ -15,9 +15,11 @@ use Rattle.propagation.specs.declared.Visit.{Visit}
 use Rattle.propagation.specs.declared.Visit.the-variants.{Conflict, Go}
 use Rattle.propagation.specs.declared.Propagated.{Propagated}
 use Rattle.propagation.specs.declared.Propagated.the-variants as propagated
-use Rattle.propagation.specs.Trail.{In, Good, Denies, off, truth, Assumed, Ready, Moved, Clash, Settled}
+use Rattle.trail.specs.Trail.{off, truth, Assumed, Ready}
+use Rattle.propagation.specs.Answers.{In, Good, Denies, Moved, Clash, Settled}
 use Rattle.redundancy.specs.Additions.{lessCode, Denied, Both, Refuted}
-use Rattle.propagation.proofs.TrailLaws.{in-last, truth-flip, holds-under, moved-refl, moved-trans, moved-weaken, moved-assume, assumed-off}
+use Rattle.trail.proofs.TrailLaws.{truth-flip, assumed-off}
+use Rattle.propagation.proofs.MoveLaws.{in-last, holds-under, moved-refl, moved-trans, moved-weaken, moved-assume}
 use Rattle.propagation.proofs.AnswerLaws.{settled-clash, settled-good}
 
 -- A CLAUSE LESS A LITERAL

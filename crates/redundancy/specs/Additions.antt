@@ -19,7 +19,8 @@ use Rattle.redundancy.specs.declared.addition.Addition.{Addition}
 use Rattle.redundancy.specs.declared.addition.Addition.the-variants.{Accepted, Refused}
 use Rattle.clauses.specs.declared.Cursor.{Cursor}
 use Rattle.clauses.specs.Standing.{literals, literalsFrom}
-use Rattle.propagation.specs.Trail.{Good, Denies, truth, Ready, Holds, Moved, Clash, Held}
+use Rattle.trail.specs.Trail.{truth, Ready}
+use Rattle.propagation.specs.Answers.{Good, Denies, Holds, Moved, Clash, Held}
 
 -- THE RULES over clauses of codes
 unfoldable pub rupOf : List (List ℕ) → List ℕ → Bool

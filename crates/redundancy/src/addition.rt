@@ -2,7 +2,8 @@
 ghost use mathlib.Core.Path.{_≡_};
 ghost use Rattle.rules.specs.Basics.{isIn};
 ghost use Rattle.clauses.specs.Standing.{standingIn, literalsIn, literalAt};
-ghost use Rattle.propagation.specs.Trail.{ReadyIn, HeldIn};
+ghost use Rattle.trail.specs.Trail.{ReadyIn};
+ghost use Rattle.propagation.specs.Answers.{HeldIn};
 ghost use Rattle.redundancy.specs.Additions.{rupOf, ratOn, ratOf, lessIn, joinedIn, DeniedIn, RefutedIn, FollowsIn, TriedIn, DecidedIn};
 use clauses::Cursor;
 use clauses::after;
@@ -16,12 +17,12 @@ use propagation::Visit;
 use propagation::Watches;
 use propagation::ground;
 use propagation::propagate;
-use propagation::trail::Falses;
-use propagation::trail::Trail;
-use propagation::trail::assume;
-use propagation::trail::flip;
-use propagation::trail::is_true;
-use propagation::trail::undo;
+use trail::Falses;
+use trail::Trail;
+use trail::assume;
+use trail::flip;
+use trail::is_true;
+use trail::undo;
 
 pub enum Addition {
     Accepted(Units),

@@ -5,22 +5,24 @@ ghost use Prim.Native.Nat.{_≤_, _<_};
 ghost use lib.ListN.{length};
 ghost use Rattle.lines.specs.Lists.{all};
 ghost use Rattle.rules.specs.Basics.{isIn};
-ghost use Rattle.clauses.specs.Standing.{literalsIn};
-ghost use Rattle.propagation.specs.Trail.{off, ReadyIn};
-ghost use Rattle.redundancy.specs.Deletions.{sameAs, ListedIn, listIn, MoreBy, DeletedIn};
+ghost use mathlib.Core.Bool.{_&&_};
+ghost use Rattle.clauses.specs.Standing.{standsIn, clauseIn, literalsIn};
+ghost use Rattle.trail.specs.Trail.{off, ReadyIn};
+ghost use Rattle.redundancy.specs.Deletions.{sameAs, ListedIn, listIn, MoreBy, UnmarkedIn, DeletedIn};
 use crate::addition::holds;
 use clauses::Cursor;
 use clauses::after;
 use clauses::clause;
 use clauses::literal;
+use clauses::passed;
 use clauses::remove;
 use clauses::stands;
-use propagation::trail::Falses;
-use propagation::trail::Trail;
-use propagation::trail::assume;
-use propagation::trail::is_off;
-use propagation::trail::undo;
-use propagation::trail::wide16;
+use trail::Falses;
+use trail::Trail;
+use trail::assume;
+use trail::is_off;
+use trail::undo;
+use trail::wide16;
 
 // One literal more of the deleted clause; the trail's length.
 pub fn list_literal(falses: &mut Falses, trail: &mut Trail, n: usize, l: u32) -> usize
@@ -76,6 +78,42 @@ fn is_same(table: &[i32], start: Cursor, falses: &Falses, trail: &Trail, n: usiz
     false
 }
 
+// Passes over the places from k on, below count, at which no clause stands or one with a literal that falses does not mark; where that ends.
+fn candidate(table: &[i32], marks: &[i32], k: usize, count: usize, falses: &Falses) -> usize
+    ensures { λ r. ⌜ (k ≤ r) × UnmarkedIn (falses .entry) (table .entry) (marks .entry) k r ⌝ }
+{
+    let mut place = k;
+    while place < count {
+        if stands(table, marks, place) {
+            if all_marked(table, clause(table, marks, place), falses) {
+                return place;
+            }
+            place += 1;
+        } else {
+            place = passed(table, marks, place + 1, count);
+        }
+    }
+    place
+}
+
+// Whether a clause of the same set stands at place k.
+fn is_there(
+    table: &[i32],
+    marks: &[i32],
+    k: usize,
+    falses: &Falses,
+    trail: &Trail,
+    n: usize,
+) -> bool
+    ensures { λ r. ⌜ (ListedIn (falses .entry) (trail .entry) n
+        → r ≡ (standsIn (table .entry) (marks .entry) k && sameAs (listIn (trail .entry) n) (clauseIn (table .entry) (marks .entry) k))) ⌝ }
+{
+    if stands(table, marks, k) {
+        return is_same(table, clause(table, marks, k), falses, trail, n);
+    }
+    false
+}
+
 // The earliest standing clause of the same set stands no more; whether there is one.
 fn take_earliest(
     table: &[i32],
@@ -89,16 +127,16 @@ fn take_earliest(
         → DeletedIn (listIn (trail .entry) n) (table .entry) (marks .entry) (marks .exit) count r) ⌝ }
 {
     let mut found = false;
-    let mut place = 0;
+    let mut place = candidate(table, marks, 0, count, falses);
     while place < count {
         let k = place;
         place += 1;
-        if stands(table, marks, k) {
-            if is_same(table, clause(table, marks, k), falses, trail, n) {
-                remove(marks, k);
-                found = true;
-                place = count;
-            }
+        if is_there(table, marks, k, falses, trail, n) {
+            remove(marks, k);
+            found = true;
+            place = count;
+        } else {
+            place = candidate(table, marks, place, count, falses);
         }
     }
     found

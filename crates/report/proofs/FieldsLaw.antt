@@ -1,5 +1,5 @@
 -- The fields as numbers and as bytes: by the verdict's cases, one number more, and the whole. Assumes nothing.
-use mathlib.Core.Path.{_≡_, sym, ap, _∙_}
+use mathlib.Core.Path.{_≡_, refl, sym, ap, _∙_}
 use mathlib.Core.List.{List, [], _∷_, _++_, append-assoc, append-nil}
 use Prim.Native.Nat.{ℕ, _+_, _*_, _<_, _≤_}
 use native.Mathlib.Omega.{arith}
@@ -10,16 +10,25 @@ use Rattle.rules.specs.Render.{wordOf, render}
 use Rattle.rules.specs.declared.Verdict.{Verdict}
 use Rattle.rules.specs.declared.Verdict.the-variants.{Accepted, Refused}
 use Rattle.rules.specs.declared.Report.{Report}
-use Rattle.report.specs.Fields.{sevenOf, Rendered}
+use Rattle.report.specs.Fields.{wordNumber, sevenOf, Rendered}
 use Rattle.report.specs.Written.{Written, numeral, afterCommas}
 use Rattle.report.proofs.Writing.{written-then, written-as}
 
-pub seven-accepted : (r : Report) → r .verdict ≡ Accepted → 0 ∷ 0 ∷ 0 ∷ 0 ∷ r .expansions ∷ r .additions ∷ r .deletions ∷ [] ≡ sevenOf r
+-- a place that nothing was written to, and was cleared before, is no word; accepted is 1 alone
+pub word-written : (v : Verdict) → 1 ≤ wordNumber v
+word-written Accepted = omega arith
+word-written (Refused number file line) = omega arith
+
+pub one-accepted : (v : Verdict) → wordNumber v ≡ 1 → v ≡ Accepted
+one-accepted Accepted e = refl
+one-accepted (Refused number file line) e = absurd (omega (arith, e))
+
+pub seven-accepted : (r : Report) → r .verdict ≡ Accepted → 1 ∷ 0 ∷ 0 ∷ 0 ∷ r .expansions ∷ r .additions ∷ r .deletions ∷ [] ≡ sevenOf r
 unfolding sevenOf
 seven-accepted r e = rw e
 
 pub seven-refused : (r : Report) {number file line : ℕ} → r .verdict ≡ Refused number file line
-    → 1 ∷ number ∷ file ∷ line ∷ r .expansions ∷ r .additions ∷ r .deletions ∷ [] ≡ sevenOf r
+    → 2 ∷ number ∷ file ∷ line ∷ r .expansions ∷ r .additions ∷ r .deletions ∷ [] ≡ sevenOf r
 unfolding sevenOf
 seven-refused r e = rw e
 
@@ -49,7 +58,7 @@ render-is r e = rw e (simp append-nil)
 
 -- the word, the six numbers and byte 10
 pub rendered : (r : Report) {s a b c d : List ℕ} {w k m : ℕ} → s ≡ sevenOf r → Written a 0 (wordOf (r .verdict)) b w
-    → Written b w (afterCommas (six s)) c k × (k ≤ w + 11 * length (six s)) → Written c k (10 ∷ []) d m → Rendered r d m
+    → Written b w (afterCommas (six s)) c k × (k ≤ w + 11 * length (six s)) → Written c k (10 ∷ []) d m → Rendered r a d m
 rendered r e f g h =
     let all = written-then (written-as (render-is r e) (written-then f (g .0))) h in
     record {
@@ -57,4 +66,5 @@ rendered r e f g h =
       within = omega (arith, all .next, simp length-take at (ap length (all .front)));
       count = omega (arith, all .next);
       bytes = all .front;
+      rest = all .rest;
     }

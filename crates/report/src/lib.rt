@@ -9,15 +9,15 @@ ghost use Rattle.report.specs.Written.{Written, numeral, afterCommas};
 use rules::Report;
 use rules::Verdict;
 
-// The seven fields as numbers, the word as 0 (accepted) or 1 (refused).
+// The seven fields as numbers, the word as 1 (accepted) or 2 (refused).
 pub fn numbers(r: Report) -> [u32; 7]
     ensures { λ s. ⌜ s ≡ sevenOf r ⌝ }
 {
     let v = r.verdict;
     match v {
-        Verdict::Accepted => [0, 0, 0, 0, r.expansions, r.additions, r.deletions],
+        Verdict::Accepted => [1, 0, 0, 0, r.expansions, r.additions, r.deletions],
         Verdict::Refused { number, file, line } => [
-            1,
+            2,
             number,
             file,
             line,
@@ -28,7 +28,7 @@ pub fn numbers(r: Report) -> [u32; 7]
     }
 }
 
-// Each of the functions below writes some bytes from a place on, and answers the place after them.
+// Each of the functions below writes some bytes from a place on, answers the place after them, and leaves the rest.
 fn put_byte(out: &mut [u8], at: usize, b: u8) -> usize
     requires { ⌜ at < length (now out) ⌝ }
     ensures { λ k. ⌜ Written (now (out .entry)) at (b ∷ []) (now (out .exit)) k ⌝ }
@@ -109,7 +109,7 @@ fn put_fields(out: &mut [u8], at: usize, fields: &[u32]) -> usize
 // The whole line.
 fn put_line(r: Report, out: &mut [u8]) -> usize
     requires { ⌜ 75 ≤ length (now out) ⌝ }
-    ensures { λ k. ⌜ Rendered r (now (out .exit)) k ⌝ }
+    ensures { λ k. ⌜ Rendered r (now (out .entry)) (now (out .exit)) k ⌝ }
 {
     let fields = numbers(r);
     let v = r.verdict;
@@ -120,7 +120,7 @@ fn put_line(r: Report, out: &mut [u8]) -> usize
 
 // The seven fields parted by commas, then byte 10; the answer is the count of these bytes.
 pub fn render_report(r: Report, out: &mut [u8; 96]) -> usize
-    ensures { λ k. ⌜ Rendered r (now (out .exit)) k ⌝ }
+    ensures { λ k. ⌜ Rendered r (now (out .entry)) (now (out .exit)) k ⌝ }
 {
     put_line(r, out)
 }

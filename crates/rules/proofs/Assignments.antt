@@ -34,20 +34,20 @@ apart-cons m t new a l i j = both (List·Memᴰ·cases-cons i) (List·Memᴰ·ca
 module _ (f : Formula) where
   -- an assignment that gives v a value
   abbrev Gives : ℕ → List ℕ → Lits → Type 0
-  Gives v vs t = (l : Lit) × (s : Lits) × In s (assignmentsOver f vs) × (l ∷ s ≡ t) × (var l ≡ v)
+  Gives v vs t = (l : Lit) × (s : Lits) × In s (assignmentsOver vs) × (l ∷ s ≡ t) × (var l ≡ v)
 
   -- an assignment over v and further variables leaves v out or gives it a value
-  assignment-cases : (v : ℕ) (vs : List ℕ) (t : Lits) → In t (assignmentsOver f (v ∷ vs)) → In t (assignmentsOver f vs) ⊎ Gives v vs t
+  assignment-cases : (v : ℕ) (vs : List ℕ) (t : Lits) → In t (assignmentsOver (v ∷ vs)) → In t (assignmentsOver vs) ⊎ Gives v vs t
   assignment-cases v vs t i =
       either
-      (λ k. either inl (λ q. inr (given (pos v) refl q)) (List·Memᴰ·append-cases (assignmentsOver f vs) k))
+      (λ k. either inl (λ q. inr (given (pos v) refl q)) (List·Memᴰ·append-cases (assignmentsOver vs) k))
       (λ k. inr (given (neg v) refl k))
-      (List·Memᴰ·append-cases (assignmentsOver f vs ++ map (λ s. pos v ∷ s) (assignmentsOver f vs)) i)
+      (List·Memᴰ·append-cases (assignmentsOver vs ++ map (λ s. pos v ∷ s) (assignmentsOver vs)) i)
     where
-      given : (l : Lit) → var l ≡ v → In t (map (λ s. l ∷ s) (assignmentsOver f vs)) → Gives v vs t
-      given l e k = let s = Memᴰ·of-map (λ s. l ∷ s) (assignmentsOver f vs) k in (l, s .0, s .1, s .2, e)
+      given : (l : Lit) → var l ≡ v → In t (map (λ s. l ∷ s) (assignmentsOver vs)) → Gives v vs t
+      given l e k = let s = Memᴰ·of-map (λ s. l ∷ s) (assignmentsOver vs) k in (l, s .0, s .1, s .2, e)
 
-  assignment-over : (vs : List ℕ) (t : Lits) → In t (assignmentsOver f vs) → (l : Lit) → In l t → In (var l) vs
+  assignment-over : (vs : List ℕ) (t : Lits) → In t (assignmentsOver vs) → (l : Lit) → In l t → In (var l) vs
   assignment-over [] t i l j = absurd (List·Memᴰ·not-nil (subst (In l) (List·Memᴰ·eq-of-singleton i) j))
   assignment-over (v ∷ vs) t i l j =
       either
@@ -58,7 +58,7 @@ module _ (f : Formula) where
       (List·Memᴰ·cases-cons (subst (In l) (sym (g .3)) j)))
       (assignment-cases v vs t i)
 
-  assignment-apart : (vs : List ℕ) → distinct vs ≡ true → (t : Lits) → In t (assignmentsOver f vs) → Apart t
+  assignment-apart : (vs : List ℕ) → distinct vs ≡ true → (t : Lits) → In t (assignmentsOver vs) → Apart t
   assignment-apart [] d t i = λ l j k. List·Memᴰ·not-nil (subst (In l) (List·Memᴰ·eq-of-singleton i) j)
   assignment-apart (v ∷ vs) d t i =
       either

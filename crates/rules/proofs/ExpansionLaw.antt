@@ -24,19 +24,19 @@ pub record Works (f : Formula) (m : List Copy) (line clause t : Lits) : Type 0 w
 module _ (f : Formula) (m : List Copy) (line clause : Lits) where
   module _ (t : Lits) where
     abbrev isFalsified : Bool
-    isFalsified = falsifies f m line t clause
+    isFalsified = falsifies f t clause
 
     abbrev areLiterals : Bool
     areLiterals = sameLiterals f m line clause
 
     abbrev areAnnotated : Bool
-    areAnnotated = all (annotatedBy f m line t) (vars line)
+    areAnnotated = all (annotatedBy f m t) (vars line)
 
     abbrev left : ℕ → Lit → Bool
     left p l = dependsOn f (standsFor m p) (var l)
 
     -- an annotation equals the part of t, by membership
-    part-same : (p : ℕ) → annotatedBy f m line t p ≡ true → (l : Lit) → In l (annotation m p) ↔ (In l t × (left p l ≡ true))
+    part-same : (p : ℕ) → annotatedBy f m t p ≡ true → (l : Lit) → In l (annotation m p) ↔ (In l t × (left p l ≡ true))
     part-same p h l = (
       λ i. in-keep (left p) l t (holds-in (part f (standsFor m p) t) l (all-in (holds (part f (standsFor m p) t)) (and-l to back h) i)),
       λ s. holds-in (annotation m p) l (all-in (holds (annotation m p)) (and-r to back h) (keep-in (left p) (s .0) (s .1))),
@@ -48,7 +48,7 @@ module _ (f : Formula) (m : List Copy) (line clause : Lits) where
         back : Bool
         back = within (part f (standsFor m p) t) (annotation m p)
 
-    same-part : (p : ℕ) → ((l : Lit) → In l (annotation m p) ↔ (In l t × (left p l ≡ true))) → annotatedBy f m line t p ≡ true
+    same-part : (p : ℕ) → ((l : Lit) → In l (annotation m p) ↔ (In l t × (left p l ≡ true))) → annotatedBy f m t p ≡ true
     same-part p h =
         and-i (within (annotation m p) (part f (standsFor m p) t)) (within (part f (standsFor m p) t) (annotation m p))
         (in-all (holds (part f (standsFor m p) t)) (annotation m p) λ l i.
@@ -63,7 +63,7 @@ module _ (f : Formula) (m : List Copy) (line clause : Lits) where
           (all-in (λ l. holds t (negate l)) (and-l isFalsified areLiterals (and-l (isFalsified && areLiterals) areAnnotated h))
           (keep-in (λ l. universal f (var l)) i u));
       literals = and-r isFalsified areLiterals (and-l (isFalsified && areLiterals) areAnnotated h);
-      annotated = λ p i. part-same p (all-in (annotatedBy f m line t) (and-r (isFalsified && areLiterals) areAnnotated h) i);
+      annotated = λ p i. part-same p (all-in (annotatedBy f m t) (and-r (isFalsified && areLiterals) areAnnotated h) i);
     }
 
     pub by-works : Works f m line clause t → expandsBy f m line clause t ≡ true
@@ -74,7 +74,7 @@ module _ (f : Formula) (m : List Copy) (line clause : Lits) where
         (in-all (λ l. holds t (negate l)) (universals f clause) λ l i.
         let s = in-keep (λ l. universal f (var l)) l clause i in in-holds t (negate l) (w .falsified l (s .0) (s .1)))
         (w .literals))
-        (in-all (annotatedBy f m line t) (vars line) λ p i. same-part p (w .annotated p i))
+        (in-all (annotatedBy f m t) (vars line) λ p i. same-part p (w .annotated p i))
 
   -- t counts as a set
   pub works-sets : (t u : Lits) → Sub t u → Sub u t → Works f m line clause t → Works f m line clause u
@@ -96,19 +96,19 @@ chosen t [] = []
 chosen t (v ∷ vs) = pick (holds t (pos v)) (holds t (neg v)) v (chosen t vs)
 
 module _ (f : Formula) where
-  chosen-in : (t : Lits) (vs : List ℕ) → In (chosen t vs) (assignmentsOver f vs)
+  chosen-in : (t : Lits) (vs : List ℕ) → In (chosen t vs) (assignmentsOver vs)
   chosen-in t [] = List·Memᴰ·head refl
   chosen-in t (v ∷ vs) = go (holds t (pos v)) (holds t (neg v)) (chosen t vs) (chosen-in t vs)
     where
-      go : (a b : Bool) (c : Lits) → In c (assignmentsOver f vs) → In (pick a b v c) (assignmentsOver f (v ∷ vs))
+      go : (a b : Bool) (c : Lits) → In c (assignmentsOver vs) → In (pick a b v c) (assignmentsOver (v ∷ vs))
       go true b c i =
-          Memᴰ·append-left (map (λ s. neg v ∷ s) (assignmentsOver f vs))
-          (Memᴰ·append-right (assignmentsOver f vs) (Memᴰ·map (λ s. pos v ∷ s) i))
+          Memᴰ·append-left (map (λ s. neg v ∷ s) (assignmentsOver vs))
+          (Memᴰ·append-right (assignmentsOver vs) (Memᴰ·map (λ s. pos v ∷ s) i))
       go false true c i =
-          Memᴰ·append-right (assignmentsOver f vs ++ map (λ s. pos v ∷ s) (assignmentsOver f vs)) (Memᴰ·map (λ s. neg v ∷ s) i)
+          Memᴰ·append-right (assignmentsOver vs ++ map (λ s. pos v ∷ s) (assignmentsOver vs)) (Memᴰ·map (λ s. neg v ∷ s) i)
       go false false c i =
-          Memᴰ·append-left (map (λ s. neg v ∷ s) (assignmentsOver f vs))
-          (Memᴰ·append-left (map (λ s. pos v ∷ s) (assignmentsOver f vs)) i)
+          Memᴰ·append-left (map (λ s. neg v ∷ s) (assignmentsOver vs))
+          (Memᴰ·append-left (map (λ s. pos v ∷ s) (assignmentsOver vs)) i)
 
   bound-in : (bs : List Bound) (v : ℕ) → any (isForAll v) bs ≡ true → In v (map boundVar bs)
   bound-in bs v h = let s = any-in (isForAll v) bs h in Memᴰ·cast (name (s .0) (s .2)) (Memᴰ·map boundVar (s .1))

@@ -30,23 +30,23 @@ module _ (f : Formula) (S : Strategy f) (m : List Copy) where
   copyValue p = S .play (completed (annotation m p)) (standsFor m p)
 
   module _ (line clause t : Lits) (apart : Apart t) (h : expandsBy f m line clause t ≡ true) where
-    falsified : falsifies f m line t clause ≡ true
+    falsified : falsifies f t clause ≡ true
     unfolding expandsBy
     falsified =
-        and-l (falsifies f m line t clause) (sameLiterals f m line clause)
-        (and-l (falsifies f m line t clause && sameLiterals f m line clause) (all (annotatedBy f m line t) (vars line)) h)
+        and-l (falsifies f t clause) (sameLiterals f m line clause)
+        (and-l (falsifies f t clause && sameLiterals f m line clause) (all (annotatedBy f m t) (vars line)) h)
 
     literals : sameLiterals f m line clause ≡ true
     unfolding expandsBy
     literals =
-        and-r (falsifies f m line t clause) (sameLiterals f m line clause)
-        (and-l (falsifies f m line t clause && sameLiterals f m line clause) (all (annotatedBy f m line t) (vars line)) h)
+        and-r (falsifies f t clause) (sameLiterals f m line clause)
+        (and-l (falsifies f t clause && sameLiterals f m line clause) (all (annotatedBy f m t) (vars line)) h)
 
-    annotated : (q : Lit) → In q line → annotatedBy f m line t (var q) ≡ true
+    annotated : (q : Lit) → In q line → annotatedBy f m t (var q) ≡ true
     unfolding expandsBy
     annotated q i =
-        all-in (annotatedBy f m line t)
-        (and-r (falsifies f m line t clause && sameLiterals f m line clause) (all (annotatedBy f m line t) (vars line)) h)
+        all-in (annotatedBy f m t)
+        (and-r (falsifies f t clause && sameLiterals f m line clause) (all (annotatedBy f m t) (vars line)) h)
         (Memᴰ·map var i)
 
     -- a universal literal of the clause is false where the universals have the values of t

@@ -20,8 +20,8 @@ pub record Judged (limits : Limits) (f : Formula) (s : State) (line : Certificat
   pub sequence : inSequence s line ≡ true
   pub range : inRange limits f line ≡ true
   pub room : hasRoom (limits .lengths) (needing s line .needs) ≡ true
-  pub kind : kindRules limits f (needing s line) line ≡ none
-  pub after : accept limits f (needing s line) line ≡ s′
+  pub kind : kindRules f (needing s line) line ≡ none
+  pub after : accept (needing s line) line ≡ s′
 
 pub judged : (limits : Limits) (f : Formula) (s : State) (line : CertificateLine) (s′ : State) → judge limits f s line ≡ next s′
     → Judged limits f s line s′
@@ -30,7 +30,7 @@ judged limits f s line s′ e =
     let a = refuse-next s before (refuseIn (needing s line) rules (next after)) s′ e in
     let b = refuse-next (needing s line) rules (next after) s′ (a .1) in
     let c = then-none (2 unless inSequence s line) (3 unless inRange limits f line) (a .0) in
-    let d = then-none (15 unless room) (kindRules limits f (needing s line) line) (b .0) in
+    let d = then-none (15 unless room) (kindRules f (needing s line) line) (b .0) in
     record {
       sequence = unless-none 2 (inSequence s line) (c .0);
       range = unless-none 3 (inRange limits f line) (c .1);
@@ -46,10 +46,10 @@ judged limits f s line s′ e =
     before = 2 unless inSequence s line then 3 unless inRange limits f line
 
     rules : Option ℕ
-    rules = 15 unless room then kindRules limits f (needing s line) line
+    rules = 15 unless room then kindRules f (needing s line) line
 
     after : State
-    after = accept limits f (needing s line) line
+    after = accept (needing s line) line
 
 -- Every state keeps P; a refusal's number and state have R; lines are below `most`.
 module _ {S : Type 0} (P : S → Type 0) (R : ℕ → S → Type 0) where

@@ -20,4 +20,4 @@ pub mod HintsForm
 pub mod ExpansionSound
 pub mod Sound
 pub mod Theorem
-pub mod Numbers
+pub mod Truths

@@ -81,8 +81,8 @@ module _ (f : Formula) where
   proper-start = record { each = λ c i. absurd (List·Memᴰ·not-nil i); once = refl }
 
   module _ (limits : Limits) where
-    proper-accept : (s : State) (line : CertificateLine) → Proper f (s .mapped) → kindRules limits f s line ≡ none
-        → Proper f (accept limits f s line .mapped)
+    proper-accept : (s : State) (line : CertificateLine) → Proper f (s .mapped) → kindRules f s line ≡ none
+        → Proper f (accept s line .mapped)
     unfolding kindRules accept
     proper-accept s (mapping ps es ls) p h = proper-mapping (s .mapped) ps es ls p h
     proper-accept s (hints ns) p h = p

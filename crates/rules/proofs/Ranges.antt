@@ -1,10 +1,10 @@
 -- The numbers, files and lines of verdicts.
-use mathlib.Core.Path.{_≡_, refl, sym, ap, subst, _∙_}
-use mathlib.Core.Logic.{_⊎_, inl, inr, _↔_}
+use mathlib.Core.Path.{_≡_, refl, ap, _∙_}
+use mathlib.Core.Logic.{inl, inr, _↔_}
 use mathlib.Core.Bool.{Bool, true, false, cond, _&&_, _||_}
 use mathlib.Core.List.{List, _++_, map}
 use mathlib.Core.Option.{Option, none, some}
-use Prim.Native.Nat.{ℕ, suc, _+_, _≤_}
+use Prim.Native.Nat.{ℕ, suc, _+_}
 use native.Mathlib.Omega.{arith}
 use lib.Dec.{eqb, leb}
 use lib.ListN.{length}
@@ -23,12 +23,8 @@ use Rattle.rules.specs.FormulaLines.{blank, withBound, withClause, upToV
 use Rattle.rules.specs.CertificateLines.{State, start, needing, inSequence, inRange, hintThere, noHintLeft, candidates, kindRules, accept, judge, certificateEnd, readCertificate}
 use Rattle.rules.specs.declared.Verdict.{Verdict}
 use Rattle.rules.specs.declared.Verdict.the-variants.{Accepted, Refused}
-use Rattle.rules.specs.Verdict.{numberOf, fileOf, lineOf, Checked, early, ofCertificate, ofFormula, check, verdict}
+use Rattle.rules.specs.Verdict.{numberOf, IsNumber, Ranged, Checked, early, ofCertificate, ofFormula, check, verdict}
 use Rattle.rules.proofs.Judged.{OfRules, OfStep, OfRead, of-unless, of-then, of-refuseIn, file-keeps, bytes-keep}
-
--- "Number 1 .. 15"
-abbrev pub IsNumber : ℕ → Type 0
-IsNumber n = (1 ≤ n) × (n ≤ 15)
 
 -- nothing is asked of states
 module _ {S : Type 0} where
@@ -101,13 +97,13 @@ module _ (limits : Limits) where
       few : Bool
       few = leb (length (f .matrix) + 1) (f .count)
 
-  formula-end : (s : Option Formula) → Rules s (formulaEnd limits s)
+  formula-end : (s : Option Formula) → Rules s (formulaEnd s)
   unfolding formulaEnd
-  formula-end none = omega arith
+  formula-end none = tt
   formula-end (some f) = one (some f) 6 (eqb (length (f .matrix)) (f .count)) (omega arith)
 
   module _ (f : Formula) where
-    kind-rules : (s : State) (line : CertificateLine) → Rules s (kindRules limits f s line)
+    kind-rules : (s : State) (line : CertificateLine) → Rules s (kindRules f s line)
     unfolding kindRules mappingRules
     kind-rules s (mapping ps es ls) =
         two s 7 (distinct (ps ++ copyVars (s .mapped))) 8 (all (existential f) es && goodAnnotation f es ls) (omega arith) (omega arith)
@@ -125,7 +121,7 @@ module _ (limits : Limits) where
         guarded s (2 unless inSequence s line then 3 unless inRange limits f line) (refuseIn (needing s line) rules (next after))
         (two s 2 (inSequence s line) 3 (inRange limits f line) (omega arith) (omega arith))
         (guarded (needing s line) rules (next after)
-        (of-then Any Numbered (15 unless room) (kindRules limits f (needing s line) line) (needing s line)
+        (of-then Any Numbered (15 unless room) (kindRules f (needing s line) line) (needing s line)
         (one (needing s line) 15 room (omega arith)) (kind-rules (needing s line) line))
         tt)
       where
@@ -133,46 +129,41 @@ module _ (limits : Limits) where
         room = hasRoom (limits .lengths) (needing s line .needs)
 
         rules : Option ℕ
-        rules = 15 unless room then kindRules limits f (needing s line) line
+        rules = 15 unless room then kindRules f (needing s line) line
 
         after : State
-        after = accept limits f (needing s line) line
+        after = accept (needing s line) line
 
-    certificate-end : (s : State) → Rules s (certificateEnd limits f s)
+    certificate-end : (s : State) → Rules s (certificateEnd s)
     unfolding certificateEnd
     certificate-end s = two s 10 (noHintLeft s) 14 (any isEmpty (s .standing)) (omega arith) (omega arith)
 
-    certificate-read : (bs : List ℕ) → OfRead Any Numbered (certificateEnd limits f) (suc (length (linesOf bs))) (readCertificate limits f bs)
+    certificate-read : (bs : List ℕ) → OfRead Any Numbered certificateEnd (suc (length (linesOf bs))) (readCertificate limits f bs)
     unfolding readCertificate
     certificate-read bs =
-        file-keeps Any Numbered (judgeBytes certificateLine (judge limits f)) (certificateEnd limits f)
+        file-keeps Any Numbered (judgeBytes certificateLine (judge limits f)) certificateEnd
         (bytes-keep Any Numbered certificateLine (judge limits f) (λ s p. omega arith) (λ s line p. certificate-step s line))
         (λ s p. certificate-end s) bs (start f) tt
 
-  formula-read : (bs : List ℕ) → OfRead Any Numbered (formulaEnd limits) (suc (length (linesOf bs))) (readFormula limits bs)
+  formula-read : (bs : List ℕ) → OfRead Any Numbered formulaEnd (suc (length (linesOf bs))) (readFormula limits bs)
   unfolding readFormula
   formula-read bs =
-      file-keeps Any Numbered (judgeBytes formulaLine (judgeFormula limits)) (formulaEnd limits)
+      file-keeps Any Numbered (judgeBytes formulaLine (judgeFormula limits)) formulaEnd
       (bytes-keep Any Numbered formulaLine (judgeFormula limits) (λ s p. omega arith) (λ s line p. formula-step s line))
       (λ s p. formula-end s) bs none tt
 
--- a number, file and line of a refusal: the line is one of its file, or 0
-abbrev Refusal : List ℕ → List ℕ → Verdict → Type 0
-Refusal formula certificate Accepted = Unit {0}
-Refusal formula certificate (Refused number file line) =
-    IsNumber number
-    × (((file ≡ 1) × (line ≤ length (linesOf formula))) ⊎ ((file ≡ 2) × (line ≤ length (linesOf certificate))))
-
 module _ (limits : Limits) (formula certificate : List ℕ) where
   abbrev Fine : Checked → Type 0
-  Fine c = Refusal formula certificate (c .report .verdict)
+  Fine c = Ranged formula certificate (c .report .verdict)
 
-  of-certificate : (f : Formula) (r : Read State) → OfRead Any Numbered (certificateEnd limits f) (suc (length (linesOf certificate))) r → Fine (ofCertificate r)
-  of-certificate f (ended s) h = tt
+  of-certificate : (f : Formula) (r : Read State) → OfRead Any Numbered certificateEnd (suc (length (linesOf certificate))) r → Fine (ofCertificate r)
+  unfolding Ranged
+  of-certificate f (ended s) h = (refl, refl, refl)
   of-certificate f (refusedAt n line s) h = (h .0, inr (refl, omega arith))
 
   of-formula : (k : Formula → Checked) → ((f : Formula) → Fine (k f)) → (r : Read (Option Formula))
-      → OfRead Any Numbered (formulaEnd limits) (suc (length (linesOf formula))) r → Fine (ofFormula r k)
+      → OfRead Any Numbered formulaEnd (suc (length (linesOf formula))) r → Fine (ofFormula r k)
+  unfolding Ranged
   of-formula k go (ended none) h = (omega arith, inl (refl, omega arith))
   of-formula k go (ended (some f)) h = go f
   of-formula k go (refusedAt n line s) h = (h .0, inl (refl, omega arith))
@@ -192,6 +183,7 @@ module _ (limits : Limits) (formula certificate : List ℕ) where
   in-order a b = cond a (cond b rest (early (Refused 1 2 0) (places 0 0 0 0 0 0))) (early (Refused 1 1 0) (places 0 0 0 0 0 0))
 
   in-order-fine : (a b : Bool) → Fine (in-order a b)
+  unfolding Ranged
   in-order-fine true true = rest-fine
   in-order-fine true false = (omega arith, inr (refl, omega arith))
   in-order-fine false b = (omega arith, inl (refl, omega arith))
@@ -211,43 +203,19 @@ module _ (limits : Limits) (formula certificate : List ℕ) where
       ap (λ a. in-order a (allows (limits .certificateBytes) (length certificate)) .report .verdict) e
       ∙ ap (λ b. in-order true b .report .verdict) c
 
--- THE FIELDS OF A VERDICT on two files
-pub record Ranged (formula certificate : List ℕ) (v : Verdict) : Type 0 where
-  pub number : numberOf v ≤ 15
-  pub file : fileOf v ≤ 2
-  pub accepted : (v ≡ Accepted) ↔ (numberOf v ≡ 0)
-  -- "number, file and line are then 0"
-  pub zeros : v ≡ Accepted → (numberOf v ≡ 0) × (fileOf v ≡ 0) × (lineOf v ≡ 0)
-  -- a refusal has a number of the table; its line is 0 or stands in its file
-  pub refused : (n file line : ℕ) → v ≡ Refused n file line → IsNumber n
-      × (((file ≡ 1) × (line ≤ length (linesOf formula))) ⊎ ((file ≡ 2) × (line ≤ length (linesOf certificate))))
-
-module _ (formula certificate : List ℕ) where
-  other : (n file line : ℕ) → Refused n file line ≡ Accepted → ⊥
-  other n file line e = let z : _≡_ {A = ℕ} 0 1 = cc in omega arith
-
-  at-most-two : (n file line : ℕ) → Refusal formula certificate (Refused n file line) → file ≤ 2
-  at-most-two n file line (k, inl h) = omega arith
-  at-most-two n file line (k, inr h) = omega arith
-
-  ranged : (v : Verdict) → Refusal formula certificate v → Ranged formula certificate v
-  ranged Accepted h = record {
-    number = omega arith;
-    file = omega arith;
-    accepted = (λ e. refl, λ e. refl);
-    zeros = λ e. (refl, refl, refl);
-    refused = λ n file line e. absurd (other n file line (sym e));
-  }
-  ranged (Refused m place at) h = record {
-    number = h .0 .1;
-    file = at-most-two m place at h;
-    accepted = (λ e. absurd (other m place at e), λ e. absurd (omega arith));
-    zeros = λ e. absurd (other m place at e);
-    refused = λ n file line e. subst (Refusal formula certificate) e h;
-  }
+-- EVERY VERDICT IS RANGED, whatever the limits and the table lengths
+pub check-ranged : (limits : Limits) (formula certificate : List ℕ)
+    → Ranged formula certificate (check limits formula certificate .report .verdict)
+check-ranged limits formula certificate = check-fine limits formula certificate
 
 pub verdict-ranged : (limits : Limits) (formula certificate : List ℕ)
     → Ranged formula certificate (verdict limits formula certificate .verdict)
 unfolding verdict
-verdict-ranged limits formula certificate =
-    ranged formula certificate (check limits formula certificate .report .verdict) (check-fine limits formula certificate)
+verdict-ranged limits formula certificate = check-ranged limits formula certificate
+
+-- accepted exactly if the number is 0
+pub zero-accepted : (formula certificate : List ℕ) (v : Verdict) → Ranged formula certificate v → (v ≡ Accepted) ↔ (numberOf v ≡ 0)
+unfolding Ranged
+zero-accepted formula certificate Accepted h = (λ e. refl, λ e. refl)
+zero-accepted formula certificate (Refused n file line) h =
+    (λ e. absurd (let z : _≡_ {A = ℕ} 0 1 = cc in omega arith), λ e. absurd (omega arith))

@@ -90,7 +90,7 @@ module _ (limits : Limits) where
   pub read-formed : (bs : List ℕ) (f : Formula) → readFormula limits bs ≡ ended (some f) → Formed f
   unfolding readFormula judgeFile formulaEnd
   read-formed bs f h =
-      let k = lines-keep (judgeBytes formulaLine (judgeFormula limits)) (formulaEnd limits) Once bytes-once 1 (linesOf bs) none (some f) h tt in
+      let k = lines-keep (judgeBytes formulaLine (judgeFormula limits)) formulaEnd Once bytes-once 1 (linesOf bs) none (some f) h tt in
       record { once = k .0; counted = eqb-eq (length (f .matrix)) (f .count) (unless-none 6 (eqb (length (f .matrix)) (f .count)) (k .1)) }
 
   -- what the limits let through is accepted without them
@@ -114,7 +114,7 @@ module _ (limits : Limits) where
   read-aside bs s h =
       lines-same
       (judgeBytes formulaLine (judgeFormula limits))
-      (formulaEnd limits)
+      formulaEnd
       (judgeBytes formulaLine (judgeFormula setAside))
       (bytes-same formulaLine (judgeFormula limits) (judgeFormula setAside) judge-aside)
       1 (linesOf bs) none s h

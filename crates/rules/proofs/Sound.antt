@@ -69,7 +69,7 @@ module _ (limits : Limits) (f : Formula) (formed : Formed f) (S : Strategy f) wh
   later s n h m = record { hinted = h; nothing-yet = λ b. absurd (n b); copied = λ b. absurd (n b); model = m }
 
   module _ (s : State) (inv : Invariant f S s) where
-    after-mapping : (ps es : List ℕ) (ls : Lits) → beforeHints s ≡ true → Invariant f S (accept limits f s (mapping ps es ls))
+    after-mapping : (ps es : List ℕ) (ls : Lits) → beforeHints s ≡ true → Invariant f S (accept s (mapping ps es ls))
     unfolding accept
     after-mapping ps es ls h =
         record {
@@ -85,12 +85,12 @@ module _ (limits : Limits) (f : Formula) (formed : Formed f) (S : Strategy f) wh
         zero-expansions : eqb (s .expansions) 0 ≡ true
         zero-expansions = and-r (beforeAdditions s) (eqb (s .expansions) 0) before
 
-    after-hints : (ns : List ℕ) → HintsName f (some ns) → Invariant f S (accept limits f s (hints ns))
+    after-hints : (ns : List ℕ) → HintsName f (some ns) → Invariant f S (accept s (hints ns))
     unfolding accept
     after-hints ns h = record { hinted = h; nothing-yet = inv .nothing-yet; copied = inv .copied; model = inv .model }
 
     after-expansion : (c : Lits) → beforeAdditions s ≡ true → satisfied (copyValue f S (s .mapped)) c ≡ true
-        → Invariant f S (accept limits f s (expansion c))
+        → Invariant f S (accept s (expansion c))
     unfolding accept
     after-expansion c b h =
         record {
@@ -106,10 +106,10 @@ module _ (limits : Limits) (f : Formula) (formed : Formed f) (S : Strategy f) wh
         no-more : eqb (s .expansions + 1) 0 ≡ true → ⊥
         no-more e = let z = eqb-eq (s .expansions + 1) 0 e in omega arith
 
-    after-addition : (c : Lits) → (rup (s .standing) c || rat (s .standing) c) ≡ true → Invariant f S (accept limits f s (addition c))
+    after-addition : (c : Lits) → (rup (s .standing) c || rat (s .standing) c) ≡ true → Invariant f S (accept s (addition c))
     unfolding accept
     after-addition c h =
-        later (accept limits f s (addition c)) no-more (inv .hinted) (m .0, satisfied-more (s .standing) c (m .0) (m .1) (m .2))
+        later (accept s (addition c)) no-more (inv .hinted) (m .0, satisfied-more (s .standing) c (m .0) (m .1) (m .2))
       where
         no-more : eqb (s .additions + 1 + s .deletions) 0 ≡ true → ⊥
         no-more e = let z = eqb-eq (s .additions + 1 + s .deletions) 0 e in omega arith
@@ -120,10 +120,10 @@ module _ (limits : Limits) (f : Formula) (formed : Formed f) (S : Strategy f) wh
             (λ r. rat-sound (s .standing) c (inv .model .0) r (inv .model .1))
             (or-cases (rup (s .standing) c) (rat (s .standing) c) h)
 
-    after-deletion : (c : Lits) → Invariant f S (accept limits f s (deletion c))
+    after-deletion : (c : Lits) → Invariant f S (accept s (deletion c))
     unfolding accept
     after-deletion c =
-        later (accept limits f s (deletion c)) no-more (inv .hinted)
+        later (accept s (deletion c)) no-more (inv .hinted)
         (inv .model .0, without-satisfied (sameSet c) (s .standing) (inv .model .0) (inv .model .1))
       where
         no-more : eqb (s .additions + (s .deletions + 1)) 0 ≡ true → ⊥
@@ -133,7 +133,7 @@ module _ (limits : Limits) (f : Formula) (formed : Formed f) (S : Strategy f) wh
   with-needs : (s : State) (line : CertificateLine) → Invariant f S s → Invariant f S (needing s line)
   with-needs s line inv = record { hinted = inv .hinted; nothing-yet = inv .nothing-yet; copied = inv .copied; model = inv .model }
 
-  expansion-true : (s : State) (c : Lits) → HintsName f (s .hinted) → kindRules limits f s (expansion c) ≡ none
+  expansion-true : (s : State) (c : Lits) → HintsName f (s .hinted) → kindRules f s (expansion c) ≡ none
       → satisfied (copyValue f S (s .mapped)) c ≡ true
   unfolding kindRules
   expansion-true s c h r =
@@ -145,7 +145,7 @@ module _ (limits : Limits) (f : Formula) (formed : Formed f) (S : Strategy f) wh
       expands-true f S (s .mapped) (formed .once) c (q .0)
       (candidates-in f (formed .counted) s h (unless-none 10 (hintThere s) (p .0)) (q .0) (q .1)) (q .2)
 
-  addition-implied : (s : State) (c : Lits) → kindRules limits f s (addition c) ≡ none → (rup (s .standing) c || rat (s .standing) c) ≡ true
+  addition-implied : (s : State) (c : Lits) → kindRules f s (addition c) ≡ none → (rup (s .standing) c || rat (s .standing) c) ≡ true
   unfolding kindRules
   addition-implied s c r =
       let implied = rup (s .standing) c || rat (s .standing) c in
@@ -163,7 +163,7 @@ module _ (limits : Limits) (f : Formula) (formed : Formed f) (S : Strategy f) wh
       positive (suc n) z = omega arith
 
   accept-keeps : (s : State) (line : CertificateLine) (s′ : State) → HintsPositive line → Judged limits f s line s′ → Invariant f S s
-      → Invariant f S (accept limits f (needing s line) line)
+      → Invariant f S (accept (needing s line) line)
   unfolding inSequence
   accept-keeps s (mapping ps es ls) s′ p a inv =
       after-mapping (needing s (mapping ps es ls)) (with-needs s (mapping ps es ls) inv) ps es ls (a .sequence)
@@ -187,7 +187,7 @@ module _ (limits : Limits) (f : Formula) (formed : Formed f) (S : Strategy f) wh
       let a = judged limits f s line s′ h in
       subst (Invariant f S) (a .after) (accept-keeps s line s′ p a inv)
 
-  pub not-closed : (s : State) → Invariant f S s → certificateEnd limits f s ≡ none → ⊥
+  pub not-closed : (s : State) → Invariant f S s → certificateEnd s ≡ none → ⊥
   unfolding certificateEnd
   not-closed s inv h =
       let closed = 14 unless any isEmpty (s .standing) in
@@ -206,5 +206,5 @@ module _ (limits : Limits) (f : Formula) (formed : Formed f) (S : Strategy f) wh
   unfolding readCertificate judgeFile
   certificate-sound bs s h =
       let bytes = judgeBytes certificateLine (judge limits f) in
-      let k = lines-keep bytes (certificateEnd limits f) (Invariant f S) bytes-keep 1 (linesOf bs) (start f) s h at-start in
+      let k = lines-keep bytes certificateEnd (Invariant f S) bytes-keep 1 (linesOf bs) (start f) s h at-start in
       not-closed s (k .0) (k .1)

@@ -61,60 +61,65 @@ module _ (s : State) where
   abbrev pub noHintLeft : Bool
   noHintLeft = maybe (s .hinted) true (λ ns. leb (length ns) (s .expansions))
 
-  -- "`o n1..nj 0` gives the i-th `e` line clause ni, counted from 1"; without an `o` line "any clause of the matrix"
+  -- "`o n1..nj 0`, j from 0, gives the i-th `e` line clause ni, counted from 1"; without an `o` line "any clause of the matrix"
   abbrev pub candidates : Formula → List Lits
   candidates f = maybe (s .hinted) (f .matrix) (λ ns. getD (f .matrix) (getD ns (s .expansions) 0 - 1) [] ∷ [])
 
+-- "a copy above its limit; .. E or L above V; a hint above C"
+abbrev pub copiesInRange : Limits → List ℕ → Bool
+copiesInRange limits ps = all (allows (limits .copies)) ps
+
 module _ (limits : Limits) (f : Formula) where
-  -- "a copy above its limit; .. E or L above V; a hint above C"
-  abbrev pub copiesInRange : List ℕ → Bool
-  copiesInRange ps = all (allows (limits .copies)) ps
-
   unfoldable pub inRange : CertificateLine → Bool
-  inRange (mapping ps es ls) = copiesInRange ps && upToV f es && upToV f (vars ls)
+  inRange (mapping ps es ls) = copiesInRange limits ps && upToV f es && upToV f (vars ls)
   inRange (hints ns) = all (λ n. leb n (f .count)) ns
-  inRange (expansion c) = copiesInRange (vars c)
-  inRange (addition c) = copiesInRange (vars c)
-  inRange (deletion c) = copiesInRange (vars c)
+  inRange (expansion c) = copiesInRange limits (vars c)
+  inRange (addition c) = copiesInRange limits (vars c)
+  inRange (deletion c) = copiesInRange limits (vars c)
 
-  -- the rules of each kind of line, from 7 on
-  unfoldable pub kindRules : State → CertificateLine → Option ℕ
-  kindRules s (mapping ps es ls) = mappingRules f (s .mapped) ps es ls
-  kindRules s (hints ns) = none
-  kindRules s (expansion c) =
-      9 unless all (isMapped (s .mapped)) (vars c)
-      then 10 unless hintThere s
-      then 11 unless any (expands f (s .mapped) c) (candidates s f)
-  kindRules s (addition c) =
-      10 unless noHintLeft s
-      then 12 unless (rup (s .standing) c || rat (s .standing) c)
-  kindRules s (deletion c) =
-      10 unless noHintLeft s
-      then 13 unless any (sameSet c) (s .standing)
+-- the rules of each kind of line, from 7 on
+unfoldable pub kindRules : Formula → State → CertificateLine → Option ℕ
+kindRules f s (mapping ps es ls) = mappingRules f (s .mapped) ps es ls
+kindRules f s (hints ns) = none
+kindRules f s (expansion c) =
+    9 unless all (isMapped (s .mapped)) (vars c)  -- unmapped
+    then 10 unless hintThere s  -- hint count
+    then 11 unless any (expands f (s .mapped) c) (candidates s f)  -- no expansion
+kindRules f s (addition c) =
+    10 unless noHintLeft s  -- hint count
+    then 12 unless (rup (s .standing) c || rat (s .standing) c)  -- not implied
+kindRules f s (deletion c) =
+    10 unless noHintLeft s  -- hint count
+    then 13 unless any (sameSet c) (s .standing)  -- nothing to delete
 
-  -- the state after an accepted line; "`d` literals `0` removes one standing clause of the same set, the earliest; the others stay"
-  unfoldable pub accept : State → CertificateLine → State
-  accept s (mapping ps es ls) =
-      state (s .mapped ++ copies ps es ls) (s .hinted) (s .standing) (s .expansions) (s .additions) (s .deletions) (s .needs)
-  accept s (hints ns) =
-      state (s .mapped) (some ns) (s .standing) (s .expansions) (s .additions) (s .deletions) (s .needs)
-  accept s (expansion c) =
-      state (s .mapped) (s .hinted) (s .standing ++ (c ∷ [])) (s .expansions + 1) (s .additions) (s .deletions) (s .needs)
-  accept s (addition c) =
-      state (s .mapped) (s .hinted) (s .standing ++ (c ∷ [])) (s .expansions) (s .additions + 1) (s .deletions) (s .needs)
-  accept s (deletion c) =
-      state (s .mapped) (s .hinted) (withoutFirst (sameSet c) (s .standing)) (s .expansions) (s .additions) (s .deletions + 1) (s .needs)
+-- the state after an accepted line; "`d` literals `0` removes one standing clause of the same set, the earliest; the others stay"
+unfoldable pub accept : State → CertificateLine → State
+accept s (mapping ps es ls) =
+    state (s .mapped ++ copies ps es ls) (s .hinted) (s .standing) (s .expansions) (s .additions) (s .deletions) (s .needs)
+accept s (hints ns) =
+    state (s .mapped) (some ns) (s .standing) (s .expansions) (s .additions) (s .deletions) (s .needs)
+accept s (expansion c) =
+    state (s .mapped) (s .hinted) (s .standing ++ (c ∷ [])) (s .expansions + 1) (s .additions) (s .deletions) (s .needs)
+accept s (addition c) =
+    state (s .mapped) (s .hinted) (s .standing ++ (c ∷ [])) (s .expansions) (s .additions + 1) (s .deletions) (s .needs)
+accept s (deletion c) =
+    state (s .mapped) (s .hinted) (withoutFirst (sameSet c) (s .standing)) (s .expansions) (s .additions) (s .deletions + 1) (s .needs)
 
-  -- THE JUDGE OF A LINE. "Within a line: 2, 3, 15, then by rising number"; "A line refused 2 or 3 adds nothing to [the needs]."
+-- "at a file's end, by rising number too"; "At the end an empty clause must stand."
+unfoldable pub certificateEnd : State → Option ℕ
+certificateEnd s = 10 unless noHintLeft s then 14 unless any isEmpty (s .standing)  -- hint count, not closed
+
+module _ (limits : Limits) (f : Formula) where
+  -- THE JUDGE OF A LINE. "Within a line: 2, 3, 15, then by rising number"; "A line refused 2 or 3 adds nothing to them."
   unfoldable pub judge : State → CertificateLine → Step State
   judge s line =
-      refuseIn s (2 unless inSequence s line then 3 unless inRange line)
-      (refuseIn (needing s line) (15 unless hasRoom (limits .lengths) (needing s line .needs) then kindRules (needing s line) line)
+      refuseIn s
+      (2 unless inSequence s line  -- malformed: out of sequence
+      then 3 unless inRange limits f line)  -- out of range
+      (refuseIn (needing s line)
+      (15 unless hasRoom (limits .lengths) (needing s line .needs)  -- table full
+      then kindRules f (needing s line) line)
       (next (accept (needing s line) line)))
-
-  -- "at a file's end, by rising number too"; "At the end an empty clause must stand."
-  unfoldable pub certificateEnd : State → Option ℕ
-  certificateEnd s = 10 unless noHintLeft s then 14 unless any isEmpty (s .standing)
 
   unfoldable pub readCertificate : List ℕ → Read State
   readCertificate bs = judgeFile (judgeBytes certificateLine judge) certificateEnd bs (start f)

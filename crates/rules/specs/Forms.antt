@@ -12,13 +12,13 @@ use Rattle.lines.specs.Lines.{Token, number, minus, word, nothingMore}
 use Rattle.rules.specs.Literals.{Lit, pos, neg, Lits}
 use Rattle.rules.specs.Formula.{Bound, forAll, exists}
 
--- "Formula: first `p cnf V C`, then prefix lines, then C clause lines"
+-- "Formula: first `p cnf V C`, then prefix lines .. then C clause lines"
 pub data FormulaLine : Type 0 where
   problem : ℕ → ℕ → FormulaLine
   binding : List Bound → FormulaLine
   clause : Lits → FormulaLine
 
--- "mapping lines, at most one `o` line, `e` lines, then additions and deletions"
+-- "mapping lines, at most one `o` line, `e` lines, then additions and deletions mixed"
 pub data CertificateLine : Type 0 where
   mapping : List ℕ → List ℕ → Lits → CertificateLine
   hints : List ℕ → CertificateLine
@@ -105,7 +105,7 @@ clauseForm kind ts = do
   (c, ts₁) ← upToZero literal ts
   whole (kind c) ts₁
 
--- "`x P1..Pk 0 E1..Ek 0 L1..Lm 0`. Both lists of k are equally long; k and m may be 0." "Unequal lists of a mapping line are 2."
+-- "`x P1..Pk 0 E1..Ek 0 L1..Lm 0`" "Both lists of k are equally long; k and m may be 0." "Unequal lists of a mapping line are 2."
 abbrev pub mappingForm : List Token → Option CertificateLine
 mappingForm ts = do
   (ps, ts₁) ← upToZero numeral ts

@@ -1,4 +1,4 @@
--- Document 01 as definitions, in its order; `Least` and `Codes` are further readings, and `Twelve` and `Rows` the worked checks.
+-- Document 01 as definitions, in its order; `Least` and `Codes` are further readings; then the worked checks, tables of rows.
 pub mod Basics
 pub mod Literals
 pub mod Formula
@@ -17,3 +17,5 @@ pub mod Least
 pub mod Codes
 pub mod Twelve
 pub mod Rows
+pub mod TableRows
+pub mod TruthRows

@@ -22,7 +22,7 @@ abbrev pub hasRoom : Option Places → Places → Bool
 hasRoom none needs = true
 hasRoom (some lengths) needs = fits lengths needs
 
--- "V 0 to 4,096. C 0 to 8,192. Copies 1 to 16,384", with files of at most so many bytes
+-- "V 0 to 4,096. C 0 to 8,192. Variables of the certificate's clauses .. 1 to 16,384", with files of at most so many bytes
 abbrev pub limitsWith : ℕ → ℕ → Places → Limits
 limitsWith f c lengths = record {
   formulaBytes = some f;

@@ -25,7 +25,7 @@ infixr 66 _comma_
 abbrev pub _comma_ : List ℕ → List ℕ → List ℕ
 a comma b = a ++ (44 ∷ b)
 
--- "A verdict is word, number, file, line, and the `e`, addition and deletion lines accepted": "the seven fields parted by commas"
+-- "A verdict is word, number, file .. line, and the `e`, addition and deletion lines accepted": "the seven fields parted by commas"
 unfoldable pub render : Report → List ℕ
 render r =
     wordOf (r .verdict) comma decimal (numberOf (r .verdict)) comma decimal (fileOf (r .verdict)) comma decimal (lineOf (r .verdict))

@@ -18,7 +18,8 @@ abbrev pub _then_ : Option ℕ → Option ℕ → Option ℕ
 none then r = r
 some n then r = some n
 
--- the state after an accepted line; or the number of the refusal, and the state with what the refused line needs of the tables
+-- the state after an accepted line; or the number of the refusal, and the state in which it came: with what the refused line needs of
+-- the tables, but for 2 and 3 as before the line
 pub data Step (S : Type 0) : Type 0 where
   next : S → Step S
   refuse : ℕ → S → Step S
@@ -49,4 +50,4 @@ module _ {S : Type 0} where
 module _ {S L : Type 0} where
   -- A line's bytes: skipped; "line of no allowed form"; or judged by the rules of its form.
   unfoldable pub judgeBytes : (List Token → Option L) → (S → L → Step S) → S → List ℕ → Step S
-  judgeBytes form judge s bs = maybe (readLine bs) (next s) (λ ts. maybe (form ts) (refuse 2 s) (judge s))
+  judgeBytes form judge s bs = maybe (readLine bs) (next s) (λ ts. maybe (form ts) (refuse 2 s) (judge s))  -- malformed

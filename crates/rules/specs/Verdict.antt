@@ -1,9 +1,12 @@
 -- The verdict, a function of both files, the limits and the table lengths. Assumes nothing.
+use mathlib.Core.Path.{_≡_}
+use mathlib.Core.Logic.{_⊎_}
 use mathlib.Core.Bool.{cond}
 use mathlib.Core.List.{List}
 use mathlib.Core.Option.{Option, none, some}
-use Prim.Native.Nat.{ℕ}
+use Prim.Native.Nat.{ℕ, _≤_}
 use lib.ListN.{length}
+use Rattle.lines.specs.Lines.{linesOf}
 use Rattle.rules.specs.Formula.{Formula}
 use Rattle.rules.specs.Forms.{formulaLine, certificateLine}
 use Rattle.rules.specs.Needs.{Places, places, fits, together, formulaNeeds, formulaNeedsSoFar, lineNeeds}
@@ -30,6 +33,21 @@ abbrev pub lineOf : Verdict → ℕ
 lineOf Accepted = 0
 lineOf (Refused number file line) = line
 
+-- one number from 1 to 15
+abbrev pub IsNumber : ℕ → Type 0
+IsNumber n = (1 ≤ n) × (n ≤ 15)
+
+-- the line is 0 or one of the file's lines
+abbrev pub IsLine : List ℕ → ℕ → Type 0
+IsLine bs line = line ≤ length (linesOf bs)
+
+-- THE RANGES OF A VERDICT on two files. "A refused pair gets one number from 1 to 15, the file and the line"; of an accepted one
+-- "number, file and line are then 0".
+unfoldable pub Ranged : List ℕ → List ℕ → Verdict → Type 0
+Ranged formula certificate Accepted = (numberOf Accepted ≡ 0) × (fileOf Accepted ≡ 0) × (lineOf Accepted ≡ 0)
+Ranged formula certificate (Refused number file line) =
+    IsNumber number × (((file ≡ 1) × IsLine formula line) ⊎ ((file ≡ 2) × IsLine certificate line))
+
 -- A report, and the places needed "up to the line where the check ended".
 pub record Checked : Type 0 where
   pub report : Report
@@ -51,7 +69,7 @@ ofCertificate (ended s) = late Accepted s
 ofCertificate (refusedAt n line s) = late (Refused n 2 line) s
 
 abbrev pub ofFormula : Read (Option Formula) → (Formula → Checked) → Checked
-ofFormula (ended none) k = early (Refused 2 1 0) (places 0 0 0 0 0 0)
+ofFormula (ended none) k = early (Refused 2 1 0) (places 0 0 0 0 0 0)  -- malformed: "no `p` line"
 ofFormula (ended (some f)) k = k f
 ofFormula (refusedAt n line s) k = early (Refused n 1 line) (formulaNeedsSoFar s)
 
@@ -62,10 +80,10 @@ module _ (limits : Limits) where
       cond (allows (limits .formulaBytes) (length formula))
       (cond (allows (limits .certificateBytes) (length certificate))
       (ofFormula (readFormula limits formula) (λ f. ofCertificate (readCertificate limits f certificate)))
-      (early (Refused 1 2 0) (places 0 0 0 0 0 0)))
-      (early (Refused 1 1 0) (places 0 0 0 0 0 0))
+      (early (Refused 1 2 0) (places 0 0 0 0 0 0)))  -- overlong
+      (early (Refused 1 1 0) (places 0 0 0 0 0 0))  -- overlong
 
-  -- "A verdict .. is a function of both files and the table lengths; table contents never enter it."
+  -- "a function of both files and the table lengths; table contents never enter it"
   unfoldable pub verdict : List ℕ → List ℕ → Report
   verdict formula certificate = check formula certificate .report
 

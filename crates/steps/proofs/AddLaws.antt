@@ -20,7 +20,7 @@ use Rattle.tables.proofs.Frames.{all-self}
 use Rattle.clauses.specs.declared.Cursor.{Cursor}
 use Rattle.clauses.specs.Standing.{standing, placesOf, literalsFrom, pendingFrom, pending}
 use Rattle.propagation.specs.declared.Units.{Units}
-use Rattle.propagation.specs.Trail.{Held}
+use Rattle.propagation.specs.Answers.{Held}
 use Rattle.redundancy.specs.declared.addition.Addition.{Addition}
 use Rattle.redundancy.specs.declared.addition.Addition.the-variants.{Accepted, Refused}
 use Rattle.redundancy.specs.Additions.{accepts, Decided}
@@ -47,7 +47,7 @@ module _ (S : List (List ℕ)) (c : List ℕ) (f t : List ℕ) (r : Addition) (d
 
 module _ {p : Progress} {t : Tables} {w : Work} {f : Formula} {s : State} (sh : Shown p t w f s) {n m : ℕ} {c : Lits} (o : Pending p t n m c) where
   kinds : (a : Bool) {b : Bool} → hintLeft p ≡ not a → accepts (clausesOf p t) (pending (t .proof) (p .store)) ≡ b
-      → kindRules (limits (lengthsOf t)) f (needing s (addition c)) (addition c) ≡ (10 unless a then 12 unless b)
+      → kindRules f (needing s (addition c)) (addition c) ≡ (10 unless a then 12 unless b)
   unfolding kindRules accepts
   kinds a {b} h q = ap₂ (λ a b. 10 unless a then 12 unless b) (turn (noHintLeft s) a (sym (hint-left sh) ∙ h)) implied
     where
@@ -112,7 +112,7 @@ module _ (p : Progress) (n m : ℕ) (t : Tables) (w : Work) where
         one : counts .additions ≡ s .additions + 1
         one = ap (λ (x : Counts). x .additions) g ∙ more-is (omega (arith, l)) ∙ ap (λ x. x + 1) (sh .additions)
 
-        next-state : Stepped f p k t (kindJudge (limits (lengthsOf t)) f s (addition c)) (Next q) u v
+        next-state : Stepped f p k t (kindJudge f s (addition c)) (Next q) u v
         unfolding accept
         next-state =
             accepted-in f p k t u v (judge-next (limits (lengthsOf t)) f s (addition c) (kinds sh o true h (answer .1))) (

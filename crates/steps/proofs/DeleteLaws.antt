@@ -23,8 +23,8 @@ use Rattle.tables.specs.Tables.{Tables, tables, lengthsOf, KeptAll}
 use Rattle.tables.proofs.Frames.{all-self}
 use Rattle.tables.proofs.Rooms.{places-same}
 use Rattle.clauses.specs.Standing.{standing, placesOf, marksNeed}
-use Rattle.propagation.specs.Trail.{Ready}
-use Rattle.propagation.proofs.TrailLaws.{held-empty}
+use Rattle.trail.specs.Trail.{Ready}
+use Rattle.propagation.proofs.MoveLaws.{held-empty}
 use Rattle.redundancy.specs.Deletions.{Listed, Deleted}
 use Rattle.redundancy.proofs.DeletionLaws.{deleted-as}
 use Rattle.steps.specs.declared.Progress.{Progress}
@@ -39,7 +39,7 @@ use Rattle.steps.proofs.StandLaws.{more-is}
 
 module _ {p : Progress} {t : Tables} {w : Work} {f : Formula} {s : State} (sh : Shown p t w f s) (c : Lits) where
   kinds : {a b : Bool} → noHintLeft s ≡ a → any (sameSet c) (s .standing) ≡ b
-      → kindRules (limits (lengthsOf t)) f (needing s (deletion c)) (deletion c) ≡ (10 unless a then 13 unless b)
+      → kindRules f (needing s (deletion c)) (deletion c) ≡ (10 unless a then 13 unless b)
   unfolding kindRules
   kinds i j = ap₂ (λ a b. 10 unless a then 13 unless b) i j
 
@@ -87,7 +87,7 @@ module _ (p : Progress) (n : ℕ) (t : Tables) (w : Work) where
           record { prefix = a .prefix; matrix = a .matrix; map = a .map; proof = a .proof; marks = frame; values = a .values })
 
       module _ (k : ℕ) (l : Light p k) where
-        shown : Shown (deletedIn p) u (work (w .starts) (w .noted) falses (w .trail)) f (accept (limits (lengthsOf t)) f (needing s (deletion c)) (deletion c))
+        shown : Shown (deletedIn p) u (work (w .starts) (w .noted) falses (w .trail)) f (accept (needing s (deletion c)) (deletion c))
         unfolding accept
         shown = record {
           formula = sh .formula;
@@ -130,7 +130,7 @@ module _ (p : Progress) (n : ℕ) (t : Tables) (w : Work) where
       where
         next-state : (c : Lits) (k : ℕ) (f : Formula) (s : State) (falses₀ trail₀ : List ℕ) → Listing c (w .falses) (w .trail) n
             → Shown p t (work (w .starts) (w .noted) falses₀ trail₀) f s → Light p k → 0 < k
-            → Stepped f p k t (kindJudge (limits (lengthsOf t)) f s (deletion c)) (Next (deletedIn p)) u (work (w .starts) (w .noted) falses (w .trail))
+            → Stepped f p k t (kindJudge f s (deletion c)) (Next (deletedIn p)) u (work (w .starts) (w .noted) falses (w .trail))
         next-state c k f s falses₀ trail₀ o sh l i =
             accepted-in f p k t u (work (w .starts) (w .noted) falses (w .trail))
             (judge-next (limits (lengthsOf t)) f s (deletion c) (kinds sh c (free c f s falses₀ trail₀ o sh) (answer c f s falses₀ trail₀ o sh ∙ e)))

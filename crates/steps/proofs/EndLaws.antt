@@ -45,7 +45,7 @@ abbrev pub numbered : ℕ → Option ℕ
 numbered k = cond (eqb k 0) none (some k)
 
 pub end-is : {p : Progress} {t : Tables} {w : Work} {f : Formula} {s : State} → Shown p t w f s → (l : Limits)
-    → certificateEnd l f s ≡ numbered (endBroken p (t .proof) (t .marks))
+    → certificateEnd s ≡ numbered (endBroken p (t .proof) (t .marks))
 unfolding certificateEnd endBroken
 end-is {p} {t} {s} sh l =
     go (noHintLeft s) (any isEmpty (s .standing))

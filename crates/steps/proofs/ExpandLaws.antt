@@ -186,7 +186,7 @@ module _ {p : Progress} {t : Tables} {w : Work} {f : Formula} {s : State} (sh : 
       go true x false y = refl
       go false x b y = refl
 
-  kinds : {k : ℕ} → k ≡ ruleBroken p t w → kindRules (limits (lengthsOf t)) f (needing s (expansion c)) (expansion c) ≡ refusal k
+  kinds : {k : ℕ} → k ≡ ruleBroken p t w → kindRules f (needing s (expansion c)) (expansion c) ≡ refusal k
   unfolding kindRules
   kinds q = first-broken allCopies (hintThere s) fitting ∙ ap refusal (sym (q ∙ number-same))
 
@@ -220,7 +220,7 @@ module _ (p : Progress) (n m : ℕ) (t : Tables) (w : Work) {k : ℕ} (q : k ≡
       one : counts .expansions ≡ s .expansions + 1
       one = ap (λ (x : Counts). x .expansions) g ∙ more-is (omega (arith, l)) ∙ ap (λ x. x + 1) (sh .expansions)
 
-      next-state : Stepped f p j t (kindJudge (limits (lengthsOf t)) f s (expansion c)) (Next r) u v
+      next-state : Stepped f p j t (kindJudge f s (expansion c)) (Next r) u v
       unfolding accept
       next-state =
           accepted-in f p j t u v (judge-next (limits (lengthsOf t)) f s (expansion c) (kinds sh o q ∙ ap refusal z)) (

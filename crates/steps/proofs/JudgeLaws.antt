@@ -19,8 +19,8 @@ use Rattle.steps.specs.Judges.{kindJudge}
 module _ (L : Limits) (f : Formula) (s : State) (line : CertificateLine) where
   abbrev full : rules.Step State
   full =
-      refuseIn (needing s line) (15 unless hasRoom (L .lengths) (needing s line .needs) then kindRules L f (needing s line) line)
-      (next (accept L f (needing s line) line))
+      refuseIn (needing s line) (15 unless hasRoom (L .lengths) (needing s line .needs) then kindRules f (needing s line) line)
+      (next (accept (needing s line) line))
 
   pub judge-order : inSequence s line ≡ false → judge L f s line ≡ refuse 2 s
   unfolding judge
@@ -39,19 +39,19 @@ module _ (L : Limits) (f : Formula) (s : State) (line : CertificateLine) where
       pub judge-room : hasRoom (L .lengths) (needing s line .needs) ≡ false → judge L f s line ≡ refuse 15 (needing s line)
       judge-room r =
           judge-full
-          ∙ ap (λ x. refuseIn (needing s line) (15 unless x then kindRules L f (needing s line) line) (next (accept L f (needing s line) line))) r
+          ∙ ap (λ x. refuseIn (needing s line) (15 unless x then kindRules f (needing s line) line) (next (accept (needing s line) line))) r
 
-      pub judge-rest : hasRoom (L .lengths) (needing s line .needs) ≡ true → judge L f s line ≡ kindJudge L f s line
+      pub judge-rest : hasRoom (L .lengths) (needing s line .needs) ≡ true → judge L f s line ≡ kindJudge f s line
       judge-rest r =
           judge-full
-          ∙ ap (λ x. refuseIn (needing s line) (15 unless x then kindRules L f (needing s line) line) (next (accept L f (needing s line) line))) r
+          ∙ ap (λ x. refuseIn (needing s line) (15 unless x then kindRules f (needing s line) line) (next (accept (needing s line) line))) r
 
   -- from 7 on
-  pub judge-kind : {k : ℕ} → kindRules L f (needing s line) line ≡ some k → kindJudge L f s line ≡ refuse k (needing s line)
-  judge-kind e = ap (λ x. refuseIn (needing s line) x (next (accept L f (needing s line) line))) e
+  pub judge-kind : {k : ℕ} → kindRules f (needing s line) line ≡ some k → kindJudge f s line ≡ refuse k (needing s line)
+  judge-kind e = ap (λ x. refuseIn (needing s line) x (next (accept (needing s line) line))) e
 
-  pub judge-next : kindRules L f (needing s line) line ≡ none → kindJudge L f s line ≡ next (accept L f (needing s line) line)
-  judge-next e = ap (λ x. refuseIn (needing s line) x (next (accept L f (needing s line) line))) e
+  pub judge-next : kindRules f (needing s line) line ≡ none → kindJudge f s line ≡ next (accept (needing s line) line)
+  judge-next e = ap (λ x. refuseIn (needing s line) x (next (accept (needing s line) line))) e
 
 -- A STEP of the rules and of the code
 module _ (f : Formula) (p : Progress) (n : ℕ) (t u : Tables) (w : Work) where

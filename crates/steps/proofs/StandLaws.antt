@@ -22,7 +22,7 @@ use Rattle.clauses.proofs.StandingLaws.{literals-more}
 use Rattle.clauses.proofs.StoreLaws.{proof-grown, marks-grown, place-new}
 use Rattle.propagation.proofs.HeldLaws.{held-stood}
 use Rattle.propagation.specs.declared.Units.{Units}
-use Rattle.propagation.specs.Trail.{Held}
+use Rattle.propagation.specs.Answers.{Held}
 use Rattle.steps.specs.declared.Counts.{Counts}
 use Rattle.steps.specs.declared.Hinted.{Hinted}
 use Rattle.steps.specs.declared.Progress.{Progress}

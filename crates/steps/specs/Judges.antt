@@ -11,11 +11,10 @@ use Rattle.rules.specs.Literals.{Lits, vars}
 use Rattle.rules.specs.Codes.{codeOf}
 use Rattle.rules.specs.Formula.{Formula}
 use Rattle.rules.specs.Forms.{CertificateLine, deletion}
-use Rattle.rules.specs.Limits.{Limits, limits}
 use Rattle.rules.specs.Step as rules
 use Rattle.rules.specs.Step.{refuseIn}
 use Rattle.rules.specs.CertificateLines.{State, needing, kindRules, accept}
-use Rattle.tables.specs.Tables.{Tables, tables, lengthsOf}
+use Rattle.tables.specs.Tables.{Tables, tables}
 use Rattle.clauses.specs.Standing.{standing, placesOf, pending, grown, proofNeed, marksNeed, hasEmpty}
 use Rattle.redundancy.specs.Deletions.{Listed}
 use Rattle.steps.specs.declared.Progress.{Progress}
@@ -24,8 +23,8 @@ use Rattle.steps.specs.Order.{hintLeft}
 use Rattle.steps.specs.Shown.{Work, work, Shown, Light, Stepped}
 
 -- WHAT THE RULES SAY OF A LINE once 2, 3 and 15 are out
-abbrev pub kindJudge : Limits → Formula → State → CertificateLine → rules.Step State
-kindJudge l f s line = refuseIn (needing s line) (kindRules l f (needing s line) line) (rules.next (accept l f (needing s line) line))
+abbrev pub kindJudge : Formula → State → CertificateLine → rules.Step State
+kindJudge f s line = refuseIn (needing s line) (kindRules f (needing s line) line) (rules.next (accept (needing s line) line))
 
 -- A CLAUSE OF n LITERALS with copies up to m is stored, does not stand yet, and has its places
 pub record Pending (p : Progress) (t : Tables) (n m : ℕ) (c : Lits) : Type 0 where
@@ -40,7 +39,7 @@ pub record Pending (p : Progress) (t : Tables) (n m : ℕ) (c : Lits) : Type 0 w
 -- THE JUDGE of a pending clause: the tables t and the working memory w become u and v, and the step is the rules' step
 pub record Judges (kind : Lits → CertificateLine) (p : Progress) (n m : ℕ) (t : Tables) (w : Work) (r : Step) (u : Tables) (v : Work) : Type 0 where
   pub steps : (c : Lits) (k : ℕ) (f : Formula) (s : State) → Pending p t n m c → Shown p t w f s → Light p k → n < k
-      → Stepped f p k t (kindJudge (limits (lengthsOf t)) f s (kind c)) r u v
+      → Stepped f p k t (kindJudge f s (kind c)) r u v
 
 -- the proof and marks tables as a call has them, among any others
 abbrev pub among : Tables → RefT (List ℤ) → RefT (List ℤ) → Tables
@@ -58,7 +57,7 @@ pub record Listing (c : Lits) (f t : List ℕ) (n : ℕ) : Type 0 where
 pub record Deletes (p : Progress) (n : ℕ) (t : Tables) (w : Work) (r : Step) (u : Tables) (v : Work) : Type 0 where
   pub steps : (c : Lits) (k : ℕ) (f : Formula) (s : State) (falses trail : List ℕ) → Listing c (w .falses) (w .trail) n
       → Shown p t (work (w .starts) (w .noted) falses trail) f s → Light p k → 0 < k
-      → Stepped f p k t (kindJudge (limits (lengthsOf t)) f s (deletion c)) r u v
+      → Stepped f p k t (kindJudge f s (deletion c)) r u v
 
 -- AT THE END: the first of the rules 10 and 14 that is broken; 0 if none
 unfoldable pub endBroken : Progress → List ℤ → List ℤ → ℕ

@@ -20,7 +20,7 @@ use Rattle.formula.specs.Shown.{FormulaShown}
 use Rattle.mapping.specs.Shown.{MappingShown}
 use Rattle.expansion.specs.Index.{Indexed}
 use Rattle.clauses.specs.Standing.{standing, placesOf, literals, proofNeed, marksNeed, emptyAbove, Filled}
-use Rattle.propagation.specs.Trail.{Held}
+use Rattle.propagation.specs.Answers.{Held}
 use Rattle.steps.specs.declared.Hinted.{Hinted}
 use Rattle.steps.specs.declared.Progress.{Progress}
 use Rattle.steps.specs.declared.Step.{Step}

@@ -7,7 +7,7 @@ use lib.IntN.{ℤ}
 use Rattle.rules.specs.Needs.{Places, places}
 use Rattle.clauses.specs.Standing.{standing, placesOf, pending, proofNeed, marksNeed, grown, Filled, Stood}
 use Rattle.propagation.specs.declared.Units.{Units}
-use Rattle.propagation.specs.Trail.{Held}
+use Rattle.propagation.specs.Answers.{Held}
 use Rattle.steps.specs.declared.Counts.{Counts}
 use Rattle.steps.specs.declared.Progress.{Progress}
 use Rattle.steps.specs.Order.{more}

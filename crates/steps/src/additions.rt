@@ -14,9 +14,9 @@ use cells::larger;
 use mapping::Mapped;
 use propagation::Units;
 use propagation::Watches;
-use propagation::trail::Falses;
-use propagation::trail::Trail;
 use redundancy::addition::Addition;
+use trail::Falses;
+use trail::Trail;
 
 // The pending clause of n literals, with copies up to m, stands from now on and is watched.
 pub fn stand(

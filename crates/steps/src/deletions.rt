@@ -10,8 +10,8 @@ use crate::Step;
 use crate::order::hint_left;
 use crate::order::one_more;
 use propagation::Units;
-use propagation::trail::Falses;
-use propagation::trail::Trail;
+use trail::Falses;
+use trail::Trail;
 
 // The progress after a deletion: nothing is known to follow from the standing clauses.
 fn with_deletion(p: Progress) -> Progress

@@ -18,8 +18,8 @@ use clauses::Cursor;
 use expansion::Starts;
 use mapping::Noted;
 use propagation::Watches;
-use propagation::trail::Falses;
-use propagation::trail::Trail;
+use trail::Falses;
+use trail::Trail;
 
 // Whether all copies of a clause, from a literal of it on, are mapped.
 fn all_mapped(proof: &[i32], from: Cursor, noted: &Noted) -> bool

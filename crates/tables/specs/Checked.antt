@@ -4,12 +4,17 @@ use mathlib.Core.List.{List}
 use Prim.Native.Nat.{ℕ}
 use Rattle.rules.specs.Limits.{Limits, limits}
 use Rattle.rules.specs.Verdict.{Checked}
+use Rattle.rules.specs.declared.Verdict.{Verdict}
 use Rattle.rules.specs.declared.Report.{Report}
 use Rattle.tables.specs.Tables.{Tables, lengthsOf, KeptAll}
 
--- THE PROMISE OF A CHECK of two files by these rules, t being the tables before and u after: "Its promise is an equation with the rules
--- above, a function of both files and the table lengths .. places beyond the need, up to the line where the check ended, hold what they
--- held."
-pub record CheckedBy (rules : Limits → List ℕ → List ℕ → Checked) (formula certificate : List ℕ) (t : Tables) (r : Report) (u : Tables) : Type 0 where
+-- THE PROMISE OF A CHECK of two files by the rules of its kind, whose verdicts are within this range; t are the tables before and u after
+pub record CheckedBy
+    (rules : Limits → List ℕ → List ℕ → Checked) (Range : List ℕ → List ℕ → Verdict → Type 0) (formula certificate : List ℕ) (t : Tables) (r : Report) (u : Tables)
+    : Type 0 where
+  -- "Its promise is an equation with the rules above, a function of both files and the table lengths"
   pub report : r ≡ rules (limits (lengthsOf t)) formula certificate .report
+  -- "places beyond the need, up to the line where the check ended, hold what they held"
   pub kept : KeptAll (rules (limits (lengthsOf t)) formula certificate .needs) t u
+  -- "A refused pair gets one number from 1 to 15, the file and the line", the numbers and the files being those of its kind
+  pub ranged : Range formula certificate (r .verdict)

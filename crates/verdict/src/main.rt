@@ -1,10 +1,10 @@
-// The program: reads the two files of the working folder, checks them and prints the report.
+// The program: loads the two files of the working folder, checks them and writes the verdict's line.
 ghost use mathlib.Core.Path.{_≡_};
 ghost use Prim.Native.Nat.{_≤_};
-ghost use lib.ListN.{length};
+ghost use lib.ListN.{length, take};
 ghost use Rattle.tables.specs.Tables.{six};
 ghost use Rattle.ferat.specs.Check.{refusedEarly};
-ghost use Rattle.verdict.specs.Program.{ReportedIn};
+ghost use Rattle.verdict.specs.Program.{ReportedIn, Printed};
 use libc::STDOUT_FILENO;
 use rules::Report;
 use rules::Verdict;
@@ -76,14 +76,50 @@ fn report_of(
     )
 }
 
-// Prints a report.
-fn print(r: Report) {
-    let mut line = [0; 96];
-    let n = report::render_report(r, &mut line);
-    io::write_all(STDOUT_FILENO, &line[0..n]);
+// The first bytes of a buffer, or all of it if it has no more.
+fn first(buffer: &[u8], count: usize) -> &[u8]
+    ensures { λ r. ⌜ now r ≡ take count (now (buffer .entry)) ⌝ }
+{
+    if buffer.len() < count {
+        return buffer;
+    }
+    &buffer[0..count]
 }
 
-// Each file has room for one byte more than the program holds, which tells a longer one.
+// THE LINE TO PRINT for two files of which so many bytes are loaded, written to `out`; the answer is the count of its bytes. Each buffer
+// has room for one byte more than the program holds, which tells a longer file.
+fn verdict_line(
+    formula: &[u8; 16385],
+    f: usize,
+    certificate: &[u8; 65537],
+    c: usize,
+    prefix: &mut [i32; 16384],
+    matrix: &mut [i32; 16384],
+    map: &mut [i32; 16384],
+    proof: &mut [i32; 16384],
+    marks: &mut [i32; 16384],
+    values: &mut [i32; 16384],
+    out: &mut [u8; 96],
+) -> usize
+    ensures { λ k. ⌜ Printed (now (formula .entry)) f (now (certificate .entry)) c
+        (six (prefix .entry) (matrix .entry) (map .entry) (proof .entry) (marks .entry) (values .entry)) (now (out .entry))
+        (six (prefix .exit) (matrix .exit) (map .exit) (proof .exit) (marks .exit) (values .exit)) (now (out .exit)) k ⌝ }
+{
+    let formula_bytes = first(formula, f);
+    let certificate_bytes = first(certificate, c);
+    let r = report_of(
+        formula_bytes,
+        certificate_bytes,
+        prefix,
+        matrix,
+        map,
+        proof,
+        marks,
+        values,
+    );
+    report::render_report(r, out)
+}
+
 fn main() {
     let mut formula = [0; 16385];
     let mut certificate = [0; 65537];
@@ -93,16 +129,21 @@ fn main() {
     let mut proof = [0; 16384];
     let mut marks = [0; 16384];
     let mut values = [0; 16384];
+    let mut line = [0; 96];
     let f = load(b"formula.qdimacs", &mut formula);
     let c = load(b"proof.ferat", &mut certificate);
-    print(report_of(
-        &formula[0..f],
-        &certificate[0..c],
+    let n = verdict_line(
+        &formula,
+        f,
+        &certificate,
+        c,
         &mut prefix,
         &mut matrix,
         &mut map,
         &mut proof,
         &mut marks,
         &mut values,
-    ));
+        &mut line,
+    );
+    io::write_all(STDOUT_FILENO, &line[0..n]);
 }

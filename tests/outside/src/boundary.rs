@@ -10,7 +10,7 @@ use std::process::Command;
 
 pub trait Checker {
     /// The check: both files and six lent tables (prefix, matrix, map,
-    /// proof, marks, values). Answers word (accepted 0, refused 1), number,
+    /// proof, marks, values). Answers word (accepted 1, refused 2), number,
     /// file, line, expansions, additions, deletions.
     fn check(&mut self, formula: &[u8], certificate: &[u8], tables: [&mut [i32]; 6]) -> [u64; 7];
 

@@ -47,12 +47,12 @@ pub struct Verdict {
 }
 
 impl Verdict {
-    /// Word (accepted 0, refused 1), number, file, line, expansions,
+    /// Word (accepted 1, refused 2), number, file, line, expansions,
     /// additions, deletions.
     pub fn fields(&self) -> [u64; 7] {
         let word = match self.word {
-            Word::Accepted => 0,
-            Word::Refused => 1,
+            Word::Accepted => 1,
+            Word::Refused => 2,
         };
         [word, self.number, self.file, self.line, self.expansions, self.additions, self.deletions]
     }

@@ -37,7 +37,7 @@ fn accepted_means_false() {
         let report = check(&case.formula, &case.certificate, case.lengths);
         if report.verdict.word == Word::Accepted {
             let fields = report.verdict.fields();
-            assert_eq!(fields[..4], [0, 0, 0, 0]);
+            assert_eq!(fields[..4], [1, 0, 0, 0]);
             if let Some(answer) = reference::is_false(&case.formula) {
                 accepted += 1;
                 assert!(answer, "case {index}");
@@ -262,7 +262,7 @@ const RIGHT: Wrong = Wrong { check: |_, _, _| {}, list: |_| {}, line: 0 };
 #[test]
 fn harness_catches_wrong_checkers() {
     let wrong = [
-        Wrong { check: |fields, _, _| *fields = [0; 7], ..RIGHT },
+        Wrong { check: |fields, _, _| *fields = [1, 0, 0, 0, 0, 0, 0], ..RIGHT },
         Wrong { check: |fields, _, _| fields[6] = 0, ..RIGHT },
         Wrong { check: |fields, _, _| fields[3] += u64::from(fields[1] == 10), ..RIGHT },
         // One place beyond the need is written.
@@ -273,7 +273,7 @@ fn harness_catches_wrong_checkers() {
             check: |fields, tables, needs| {
                 if needs[0] > 0 && !tables[0].is_empty() {
                     if tables[0][0] == 77_777_777 {
-                        *fields = [0; 7];
+                        *fields = [1, 0, 0, 0, 0, 0, 0];
                     }
                     tables[0][0] = 77_777_777;
                 }

@@ -1,5 +1,4 @@
-use native.Mathlib.Omega.{arith}
-use Rattle.lines.proofs.Words.{literal-none, word-within, literal-value, literal-minus, literal-other, value-capped, minus-capped}
+use Rattle.lines.proofs.Words.{literal-none, word-within, literal-read, literal-other}
 use borrow.Author.Needs.{needs}
 use Rattle.lines.proofs.literal_at.Statement.{statement}
 use Rattle.lines.proofs.literal_at.Tie as tie
@@ -25,37 +24,17 @@ part-number-of-end c = word-within _ _ (c .before .before .past .ensures) (c .pa
 number-of-requires : tie.Need-number-of-requires
 number-of-requires c κs = search needs
 
-enum-known-v : tie.Need-enum-known-v
-enum-known-v c = search needs
-
-mul-t15 : tie.Need-mul-t15
-mul-t15 c = let k = c .before .before .before .before .before in
-    let h = value-capped _ _ (k .before .before .past .ensures) (k .past2 .ensures) (c .before .before .before .number-of .ensures) (c .before .v .given .1) in omega arith
-
-enum-known-v-2 : tie.Need-enum-known-v-2
-enum-known-v-2 c = search needs
-
-mul-t16 : tie.Need-mul-t16
-mul-t16 c = let k = c .before .before .before .before .before in
-    let h = minus-capped _ _ (k .before .before .past .ensures) (k .past2 .ensures) (c .before .before .before .number-of .ensures) (c .before .v2 .given .1) in omega arith
-
-add-t17 : tie.Need-add-t17
-add-t17 c = let k = c .before .before .before .before .before in
-    let h = minus-capped _ _ (k .before .before .past .ensures) (k .past2 .ensures) (c .before .before .before .number-of .ensures) (c .before .v2 .given .1) in omega arith
+enum-known-x : tie.Need-enum-known-x
+enum-known-x c = search needs
 
 enum-told : tie.Need-enum-told
 enum-told c = search needs
 
 returns-2 : tie.Need-returns-2
-returns-2 c = let k = c .before .before .before .before .before in
-    literal-value _ _ (k .before .before .past .ensures) (k .past2 .ensures) (c .before .before .before .number-of .ensures) (c .before .v .given .1)
+returns-2 c = literal-other _ _ (c .before .before .before .before .before .before .past .ensures) (c .before .before .before .before .past2 .ensures) (c .before .before .number-of .ensures) (c .enum-told .given .1)
 
 returns-3 : tie.Need-returns-3
-returns-3 c = let k = c .before .before .before .before .before in
-    literal-minus _ _ (k .before .before .past .ensures) (k .past2 .ensures) (c .before .before .before .number-of .ensures) (c .before .v2 .given .1)
-
-returns-4 : tie.Need-returns-4
-returns-4 c = literal-other _ _ (c .before .before .before .before .before .before .past .ensures) (c .before .before .before .before .past2 .ensures) (c .before .before .number-of .ensures) (c .enum-told .given .1)
+returns-3 c = literal-read _ _ (c .before .before .before .before .before .before .before .past .ensures) (c .before .before .before .before .before .past2 .ensures) (c .before .before .before .number-of .ensures) (c .before .x .given .1)
 
 pub literal-at-spec : {M : Type 1} → statement M
 literal-at-spec =
@@ -68,12 +47,7 @@ literal-at-spec =
     part-number-of-start
     part-number-of-end
     number-of-requires
-    enum-known-v
-    mul-t15
-    enum-known-v-2
-    mul-t16
-    add-t17
+    enum-known-x
     enum-told
     returns-2
-    returns-3
-    returns-4)
+    returns-3)

@@ -1,6 +1,6 @@
 use Rattle.mapping.specs.MappingLine.{lent}
 use Rattle.mapping.proofs.RuleLaws.{mapping-told, mapping-lost, lists-long}
-use Rattle.mapping.proofs.LineLaws.{line-malformed, line-early, line-passed, line-7, line-8, line-next}
+use Rattle.mapping.proofs.LineLaws.{line-malformed, line-early, line-passed, line-taken, line-unfit, line-stored, line-good}
 use native.Mathlib.Omega.{arith}
 use borrow.Author.Needs.{needs}
 use Rattle.mapping.proofs.mapping_line.Statement.{statement}
@@ -62,8 +62,24 @@ returns-2 c = let at-early = c .before in let at-k = at-early .before .before .b
 fresh-requires : tie.Need-fresh-requires
 fresh-requires c κs = search needs
 
+returns-3 : tie.Need-returns-3
+returns-3 c = let f = c .before .before .before in let at-early = f .before in let k = at-early .before .before .before .before .before .before in let start = k .before .before .before .before in
+    let o = mapping-told _ _ (k .before .before .mapping-at .ensures) (k .k .given .1) in
+    let passed = line-passed o (start .args .in-turn) (start .args .v) (start .args .state) (start .args .prefix .now)
+    (lent (start .args .map) (start .args .values) (start .args .noted)) (at-early .before .before .before .larger .ensures)
+    (at-early .before .before .roomy .ensures) (at-early .before .ranged .ensures) (at-early .early .ensures) (f .if1 .left) in
+    line-taken o _ _ _ _ _ passed (c .before .fresh .ensures) (c .if2 .taken)
+
 annotates-requires : tie.Need-annotates-requires
 annotates-requires c κs = search needs
+
+returns-4 : tie.Need-returns-4
+returns-4 c = let f = c .before .before .before .before .before in let at-early = f .before in let k = at-early .before .before .before .before .before .before in let start = k .before .before .before .before in
+    let o = mapping-told _ _ (k .before .before .mapping-at .ensures) (k .k .given .1) in
+    let passed = line-passed o (start .args .in-turn) (start .args .v) (start .args .state) (start .args .prefix .now)
+    (lent (start .args .map) (start .args .values) (start .args .noted)) (at-early .before .before .before .larger .ensures)
+    (at-early .before .before .roomy .ensures) (at-early .before .ranged .ensures) (at-early .early .ensures) (f .if1 .left) in
+    line-unfit o _ _ _ _ _ passed (c .before .before .before .fresh .ensures) (c .before .before .if2 .left) (c .before .annotates .ensures) (c .if3 .taken)
 
 store-requires : tie.Need-store-requires
 store-requires c κs = search needs
@@ -74,34 +90,27 @@ same-length c = search needs
 same-length-2 : tie.Need-same-length-2
 same-length-2 c = search needs
 
-returns-3 : tie.Need-returns-3
-returns-3 c = let at-if3 = c .before .before .before .before .before in let at-fresh = at-if3 .before .before .before in
-    let at-if1 = at-fresh .before .before in let at-early = at-if1 .before in let at-k = at-early .before .before .before .before .before .before in
-    let start = at-k .before .before .before .before in
-    let o = mapping-told _ _ (at-k .before .before .mapping-at .ensures) (at-k .k .given .1) in
-    let passed = line-passed o (start .args .in-turn) (start .args .v) (start .args .state) (start .args .prefix .now)
-    (lent (start .args .map) (start .args .values) (start .args .noted)) (at-early .before .before .before .larger .ensures)
-    (at-early .before .before .roomy .ensures) (at-early .before .ranged .ensures) (at-early .early .ensures) (at-if1 .if1 .left) in
-    line-next o _ _ _ _ _ passed (at-fresh .fresh .ensures) (at-if3 .before .before .if2 .taken) (at-if3 .before .annotates .ensures) (at-if3 .if3 .taken)
-    (c .before .before .store .ensures) (at-early .before .before .before .larger .ensures) (same-length c) (same-length-2 c)
-
-returns-4 : tie.Need-returns-4
-returns-4 c = let at-fresh = c .before .before .before in let at-if1 = at-fresh .before .before in let at-early = at-if1 .before in
-    let at-k = at-early .before .before .before .before .before .before in let start = at-k .before .before .before .before in
-    let o = mapping-told _ _ (at-k .before .before .mapping-at .ensures) (at-k .k .given .1) in
-    let passed = line-passed o (start .args .in-turn) (start .args .v) (start .args .state) (start .args .prefix .now)
-    (lent (start .args .map) (start .args .values) (start .args .noted)) (at-early .before .before .before .larger .ensures)
-    (at-early .before .before .roomy .ensures) (at-early .before .ranged .ensures) (at-early .early .ensures) (at-if1 .if1 .left) in
-    line-8 o _ _ _ _ _ passed (at-fresh .fresh .ensures) (c .before .before .if2 .taken) (c .before .annotates .ensures) (c .if3 .left)
-
 returns-5 : tie.Need-returns-5
-returns-5 c = let at-if1 = c .before .before .before in let at-early = at-if1 .before in
-    let at-k = at-early .before .before .before .before .before .before in let start = at-k .before .before .before .before in
-    let o = mapping-told _ _ (at-k .before .before .mapping-at .ensures) (at-k .k .given .1) in
+returns-5 c = let f = c .before .before .before .before .before .before .before .before .before .before .before in let at-early = f .before in let k = at-early .before .before .before .before .before .before in let start = k .before .before .before .before in
+    let o = mapping-told _ _ (k .before .before .mapping-at .ensures) (k .k .given .1) in
     let passed = line-passed o (start .args .in-turn) (start .args .v) (start .args .state) (start .args .prefix .now)
     (lent (start .args .map) (start .args .values) (start .args .noted)) (at-early .before .before .before .larger .ensures)
-    (at-early .before .before .roomy .ensures) (at-early .before .ranged .ensures) (at-early .early .ensures) (at-if1 .if1 .left) in
-    line-7 o _ _ _ _ _ passed (c .before .fresh .ensures) (c .if2 .left)
+    (at-early .before .before .roomy .ensures) (at-early .before .ranged .ensures) (at-early .early .ensures) (f .if1 .left) in
+    absurd (c .if4 .taken (line-stored o _ _ _ _ _ passed (c .before .before .before .before .before .before .before .before .before .fresh .ensures) (c .before .before .before .before .before .before .before .before .if2 .left) (c .before .before .before .before .before .before .before .annotates .ensures) (c .before .before .before .before .before .before .if3 .left) (c .before .before .before .store .ensures)))
+
+same-length-3 : tie.Need-same-length-3
+same-length-3 c = search needs
+
+same-length-4 : tie.Need-same-length-4
+same-length-4 c = search needs
+
+returns-6 : tie.Need-returns-6
+returns-6 c = let f = c .before .before .before .before .before .before .before .before .before .before .before in let at-early = f .before in let k = at-early .before .before .before .before .before .before in let start = k .before .before .before .before in
+    let o = mapping-told _ _ (k .before .before .mapping-at .ensures) (k .k .given .1) in
+    let passed = line-passed o (start .args .in-turn) (start .args .v) (start .args .state) (start .args .prefix .now)
+    (lent (start .args .map) (start .args .values) (start .args .noted)) (at-early .before .before .before .larger .ensures)
+    (at-early .before .before .roomy .ensures) (at-early .before .ranged .ensures) (at-early .early .ensures) (f .if1 .left) in
+    line-good o _ _ _ _ _ passed (c .before .before .before .before .before .before .before .before .before .fresh .ensures) (c .before .before .before .before .before .before .before .before .if2 .left) (c .before .before .before .before .before .before .before .annotates .ensures) (c .before .before .before .before .before .before .if3 .left) (c .before .before .before .store .ensures) (at-early .before .before .before .larger .ensures) (same-length-3 c) (same-length-4 c)
 
 pub mapping-line-spec : {M : Type 1} → statement M
 mapping-line-spec =
@@ -122,10 +131,13 @@ mapping-line-spec =
     early-requires
     returns-2
     fresh-requires
+    returns-3
     annotates-requires
+    returns-4
     store-requires
     same-length
     same-length-2
-    returns-3
-    returns-4
-    returns-5)
+    returns-5
+    same-length-3
+    same-length-4
+    returns-6)

@@ -2,8 +2,9 @@ use borrow.Author.Needs.{needs}
 use Prim.Native.Nat.{_-_}
 use native.Mathlib.Omega.{arith}
 use Rattle.clauses.specs.Standing.{standing}
-use Rattle.propagation.specs.Trail.{Good, Moved, Ready, Visited}
-use Rattle.propagation.proofs.TrailLaws.{moved-refl}
+use Rattle.trail.specs.Trail.{Ready}
+use Rattle.propagation.specs.Answers.{Good, Moved, Visited}
+use Rattle.propagation.proofs.MoveLaws.{moved-refl}
 use Rattle.propagation.proofs.AnswerLaws.{visited-clash, visited-moved, moved-on, clash-on}
 use Rattle.propagation.proofs.follow.Statement.{statement}
 use Rattle.propagation.proofs.follow.Tie as tie

@@ -1,5 +1,5 @@
 use borrow.Author.Needs.{needs}
-use Rattle.propagation.specs.Trail.{Visited}
+use Rattle.propagation.specs.Answers.{Visited}
 use Rattle.propagation.proofs.AnswerLaws.{visited-clash, visited-moved, visited-on}
 use Rattle.propagation.proofs.ground.Statement.{statement}
 use Rattle.propagation.proofs.ground.Tie as tie

@@ -1,5 +1,5 @@
-use Rattle.propagation.specs.Trail.{Turned}
-use Rattle.propagation.proofs.TrailLaws.{moved-refl}
+use Rattle.propagation.specs.Answers.{Turned}
+use Rattle.propagation.proofs.MoveLaws.{moved-refl}
 use Rattle.propagation.proofs.ClauseLaws.{judge-conflict, judge-unit}
 use borrow.Author.Needs.{needs}
 use Rattle.propagation.proofs.judge.Statement.{statement}

@@ -2,8 +2,10 @@ use borrow.Author.Needs.{needs}
 use native.Mathlib.Omega.{arith}
 use Prim.Native.Nat.{_+_, _≤_}
 use Rattle.clauses.specs.Standing.{standing}
-use Rattle.propagation.specs.Trail.{Good, Moved, Ready}
-use Rattle.propagation.proofs.TrailLaws.{moved-refl, moved-unit, read-clash, flip-small, assumed-up, never-full}
+use Rattle.trail.specs.Trail.{Ready}
+use Rattle.propagation.specs.Answers.{Good, Moved}
+use Rattle.trail.proofs.TrailLaws.{flip-small, assumed-up, never-full}
+use Rattle.propagation.proofs.MoveLaws.{moved-refl, moved-unit, read-clash}
 use Rattle.propagation.proofs.AnswerLaws.{visited-clash, visited-moved, moved-on, settle-clash, settle-good, scanned-falsified, scanned-unit, scanned-good}
 use Rattle.propagation.proofs.propagate.Statement.{statement}
 use Rattle.propagation.proofs.propagate.Tie as tie

@@ -1,9 +1,10 @@
-use borrow.Author.Needs.{needs}
 use native.Mathlib.Omega.{arith}
 use Rattle.clauses.specs.Standing.{standing}
-use Rattle.propagation.specs.Trail.{Good, Moved, Ready, Visited}
-use Rattle.propagation.proofs.TrailLaws.{moved-refl}
+use Rattle.trail.specs.Trail.{Ready}
+use Rattle.propagation.specs.Answers.{Good, Moved, Visited}
+use Rattle.propagation.proofs.MoveLaws.{moved-refl}
 use Rattle.propagation.proofs.AnswerLaws.{turned-clash, turned-moved, moved-on, clash-on}
+use borrow.Author.Needs.{needs}
 use Rattle.propagation.proofs.walk.Statement.{statement}
 use Rattle.propagation.proofs.walk.Tie as tie
 
@@ -24,19 +25,12 @@ loop-holds c = λ r. moved-refl _ _ _ _ r
 sub-steps : tie.Need-sub-steps Inv-loop μ-loop
 sub-steps c = search needs
 
-returns : tie.Need-returns Inv-loop μ-loop
-unfolding Visited
-returns c = c .before .before .loop .inv
-
-sub-wide : tie.Need-sub-wide Inv-loop μ-loop
-sub-wide c = search needs
-
 wide-requires : tie.Need-wide-requires Inv-loop μ-loop
 wide-requires c κs = search needs
 
-returns-2 : tie.Need-returns-2 Inv-loop μ-loop
+returns : tie.Need-returns Inv-loop μ-loop
 unfolding Visited
-returns-2 c = c .before .before .before .before .loop .inv
+returns c = c .before .before .before .loop .inv
 
 partner-requires : tie.Need-partner-requires Inv-loop μ-loop
 partner-requires c κs = search needs
@@ -48,10 +42,10 @@ seems-true-requires : tie.Need-seems-true-requires Inv-loop μ-loop
 seems-true-requires c κs = search needs
 
 loop-less : tie.Need-loop-less Inv-loop μ-loop
-loop-less c = omega (arith, c .before .before .before .before .before .before .before .before .before .before .loop-test .taken)
+loop-less c = omega (arith, c .before .before .before .before .before .before .before .before .before .loop-test .taken)
 
 loop-again : tie.Need-loop-again Inv-loop μ-loop
-loop-again c = c .before .before .before .before .before .before .before .before .before .before .before .loop .inv
+loop-again c = c .before .before .before .before .before .before .before .before .before .before .loop .inv
 
 judge-requires : tie.Need-judge-requires Inv-loop μ-loop
 judge-requires c κs = search needs
@@ -59,11 +53,10 @@ judge-requires c κs = search needs
 enum-told : tie.Need-enum-told Inv-loop μ-loop
 enum-told c = search needs
 
-returns-3 : tie.Need-returns-3 Inv-loop μ-loop
-returns-3 c = let s = c .before .before .before .before .before .before .before .before .before .before .before .before in
-    λ r.
-    let m = s .before .before .before .before .loop .inv r in
-    let j = turned-clash (c .enum-told .given .1) (c .before .before .judge .ensures (m .ready) (omega (arith, s .if2 .left))) in
+returns-2 : tie.Need-returns-2 Inv-loop μ-loop
+returns-2 c = λ r.
+    let m = c .before .before .before .before .before .before .before .before .before .before .before .before .before .before .before .loop .inv r in
+    let j = turned-clash (c .enum-told .given .1) (c .before .before .judge .ensures (m .ready) (omega (arith, c .before .before .before .before .before .before .before .before .before .before .before .before .if1 .left))) in
     clash-on m (j .0) (j .1)
 
 enum-known-j : tie.Need-enum-known-j Inv-loop μ-loop
@@ -73,18 +66,16 @@ watch-instead-requires : tie.Need-watch-instead-requires Inv-loop μ-loop
 watch-instead-requires c κs = search needs
 
 loop-less-2 : tie.Need-loop-less-2 Inv-loop μ-loop
-loop-less-2 c = omega (arith, c .before .before .before .before .before .before .before .before .before .before .before .before .before .before .before .before .before .before .loop-test .taken)
+loop-less-2 c = omega (arith, c .before .before .before .before .before .before .before .before .before .before .before .before .before .before .before .before .before .loop-test .taken)
 
 loop-again-2 : tie.Need-loop-again-2 Inv-loop μ-loop
-loop-again-2 c = let s = c .before .before .before in
-    let t = s .before .before .before .before .before .before .before .before .before .before .before .before in
-    λ r.
-    let m = t .before .before .before .before .loop .inv r in
-    moved-on m (turned-moved (s .j .given .1) (s .before .before .judge .ensures (m .ready) (omega (arith, t .if2 .left))))
+loop-again-2 c = λ r.
+    let m = c .before .before .before .before .before .before .before .before .before .before .before .before .before .before .before .before .before .before .loop .inv r in
+    moved-on m (turned-moved (c .before .before .before .j .given .1) (c .before .before .before .before .before .judge .ensures (m .ready) (omega (arith, c .before .before .before .before .before .before .before .before .before .before .before .before .before .before .before .if1 .left))))
 
-returns-4 : tie.Need-returns-4 Inv-loop μ-loop
+returns-3 : tie.Need-returns-3 Inv-loop μ-loop
 unfolding Visited
-returns-4 c = c .before .loop .inv
+returns-3 c = c .before .loop .inv
 
 pub walk-spec : {M : Type 1} → statement M
 walk-spec =
@@ -95,10 +86,8 @@ walk-spec =
     first-requires
     loop-holds
     sub-steps
-    returns
-    sub-wide
     wide-requires
-    returns-2
+    returns
     partner-requires
     following-requires
     seems-true-requires
@@ -106,9 +95,9 @@ walk-spec =
     loop-again
     judge-requires
     enum-told
-    returns-3
+    returns-2
     enum-known-j
     watch-instead-requires
     loop-less-2
     loop-again-2
-    returns-4)
+    returns-3)

@@ -1,6 +1,8 @@
+use mathlib.Core.Path.{refl}
+use borrow.Author.Needs.{needs}
 use Rattle.expansion.specs.Marks.{listed}
 use Rattle.expansion.proofs.HeldLaws.{holds-none, held-few}
-use Rattle.expansion.proofs.Arms.{notes-no, notes-yes}
+use Rattle.expansion.proofs.Arms.{notes-no, notes-yes, notes-long}
 use Rattle.expansion.proofs.annotations.annotations_fit.Statement.{statement}
 use Rattle.expansion.proofs.annotations.annotations_fit.Tie as tie
 
@@ -13,16 +15,23 @@ join-annotations-requires c κs = c .before .before .join-negations .ensures .he
 one-signed-requires : tie.Need-one-signed-requires
 one-signed-requires c κs = c .before .before .join-annotations .ensures .held
 
-copies-fit-requires : tie.Need-copies-fit-requires
-copies-fit-requires c κs = held-few _ _ _ (c .before .before .before .before .before .join-annotations .ensures .held)
+all-long-requires : tie.Need-all-long-requires
+all-long-requires c κs = search needs
 
 returns : tie.Need-returns
 unfolding listed
-returns c = notes-yes _ _ _ _ _ (c .before .before .before .before .before .before .before .before .before .join-negations .ensures .codes) (c .before .before .before .before .before .before .join-annotations .ensures .codes) (c .before .before .before .one-signed .ensures) (c .before .before .if1 .taken) (c .copies-fit .ensures)
+returns c = notes-long _ _ _ _ _ (c .before .before .before .before .before .before .before .before .before .join-negations .ensures .codes) (c .before .before .before .before .before .before .join-annotations .ensures .codes) (c .before .before .before .one-signed .ensures) (c .before .before .if1 .taken) _ _ refl (c .before .all-long .ensures) (c .if2 .taken)
+
+copies-fit-requires : tie.Need-copies-fit-requires
+copies-fit-requires c κs = held-few _ _ _ (c .before .before .before .before .before .before .before .join-annotations .ensures .held)
 
 returns-2 : tie.Need-returns-2
 unfolding listed
-returns-2 c = notes-no _ _ _ _ _ (c .before .before .before .before .before .before .before .join-negations .ensures .codes) (c .before .before .before .before .join-annotations .ensures .codes) (c .before .one-signed .ensures) (c .if1 .left)
+returns-2 c = notes-yes _ _ _ _ _ (c .before .before .before .before .before .before .before .before .before .before .before .join-negations .ensures .codes) (c .before .before .before .before .before .before .before .before .join-annotations .ensures .codes) (c .before .before .before .before .before .one-signed .ensures) (c .before .before .before .before .if1 .taken) (c .copies-fit .ensures)
+
+returns-3 : tie.Need-returns-3
+unfolding listed
+returns-3 c = notes-no _ _ _ _ _ (c .before .before .before .before .before .before .before .join-negations .ensures .codes) (c .before .before .before .before .join-annotations .ensures .codes) (c .before .one-signed .ensures) (c .if1 .left)
 
 pub annotations-fit-spec : {M : Type 1} → statement M
 annotations-fit-spec =
@@ -31,6 +40,8 @@ annotations-fit-spec =
     join-negations-requires
     join-annotations-requires
     one-signed-requires
-    copies-fit-requires
+    all-long-requires
     returns
-    returns-2)
+    copies-fit-requires
+    returns-2
+    returns-3)

@@ -27,7 +27,7 @@ returns : tie.Need-returns Inv-loop μ-loop
 returns c = sym (c .before .before .loop .inv ∙ all-stop _ _ (c .before .code .ensures .0) _ (c .if1 .taken))
 
 in-line-requires : tie.Need-in-line-requires Inv-loop μ-loop
-in-line-requires c κs = c .before .before .before .pre
+in-line-requires c κs = c .before .before .before .before .pre
 
 add-i : tie.Need-add-i Inv-loop μ-loop
 add-i c = let h = inside _ _ (c .before .before .before .code .ensures .0) (c .before .before .if1 .left) in omega arith

@@ -1,31 +1,42 @@
-use mathlib.Core.Path.{sym, _∙_}
 use borrow.Author.Needs.{needs}
-use Rattle.expansion.proofs.MarkLaws.{zeros-marked}
-use Rattle.expansion.proofs.Arms.{fit-no, fit-yes}
+use native.Mathlib.Omega.{arith}
+use Rattle.expansion.proofs.MarkLaws.{none-marking}
 use Rattle.expansion.proofs.literals.literals_fit.Statement.{statement}
 use Rattle.expansion.proofs.literals.literals_fit.Tie as tie
 
-mark-requires : tie.Need-mark-requires
-mark-requires c κs = search needs
+is-short-requires : tie.Need-is-short-requires
+is-short-requires c κs = search needs
 
-line-in-clause-requires : tie.Need-line-in-clause-requires
-line-in-clause-requires c κs = zeros-marked _ _ (c .before .mark .ensures)
+is-short-requires-2 : tie.Need-is-short-requires-2
+is-short-requires-2 c κs = search needs
 
-clause-in-line-requires : tie.Need-clause-in-line-requires
-clause-in-line-requires c κs = search needs
+slice-aggregate-fit-by : tie.Need-slice-aggregate-fit-by
+slice-aggregate-fit-by c = search needs
+
+slice-aggregate-fit-by-2 : tie.Need-slice-aggregate-fit-by-2
+slice-aggregate-fit-by-2 c = search needs
+
+fit-by-requires : tie.Need-fit-by-requires
+fit-by-requires c κs = (none-marking _ _ (omega arith), none-marking _ _ (omega arith))
 
 returns : tie.Need-returns
-returns c = fit-yes _ _ _ _ (sym (c .before .before .line-in-clause .ensures) ∙ c .before .if1 .taken) (c .clause-in-line .ensures)
+returns c = search needs
+
+fit-marked-requires : tie.Need-fit-marked-requires
+fit-marked-requires c κs = search needs
 
 returns-2 : tie.Need-returns-2
-returns-2 c = fit-no _ _ _ _ (sym (c .before .line-in-clause .ensures) ∙ c .if1 .left)
+returns-2 c = search needs
 
 pub literals-fit-spec : {M : Type 1} → statement M
 literals-fit-spec =
     tie.close
     (tie.spec
-    mark-requires
-    line-in-clause-requires
-    clause-in-line-requires
+    is-short-requires
+    is-short-requires-2
+    slice-aggregate-fit-by
+    slice-aggregate-fit-by-2
+    fit-by-requires
     returns
+    fit-marked-requires
     returns-2)

@@ -1,13 +1,13 @@
 use borrow.Author.Needs.{needs}
-use Rattle.expansion.proofs.MarkLaws.{marked-is}
+use Rattle.expansion.proofs.MarkLaws.{marking-is}
 use Rattle.expansion.proofs.marks.marked.Statement.{statement}
 use Rattle.expansion.proofs.marks.marked.Tie as tie
 
-element-copy-out-result : tie.Need-element-copy-out-result
-element-copy-out-result c = search needs
+shared-slice-read-result : tie.Need-shared-slice-read-result
+shared-slice-read-result c = search needs
 
 returns : tie.Need-returns
-returns c = marked-is _ _ _ (c .before .before .pre) (c .before .if1 .taken)
+returns c = marking-is _ _ _ (c .before .before .before .pre) (c .before .if1 .taken)
 
 has-requires : tie.Need-has-requires
 has-requires c κs = search needs
@@ -16,4 +16,4 @@ returns-2 : tie.Need-returns-2
 returns-2 c = search needs
 
 pub marked-spec : {M : Type 1} → statement M
-marked-spec = tie.close (tie.spec element-copy-out-result returns has-requires returns-2)
+marked-spec = tie.close (tie.spec shared-slice-read-result returns has-requires returns-2)

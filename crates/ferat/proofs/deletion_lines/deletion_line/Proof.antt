@@ -1,5 +1,5 @@
 use mathlib.Core.Path.{sym, _∙_}
-use Rattle.ferat.proofs.DeletionLaws.{deletion-bad, deletion-high, deletion-judged}
+use Rattle.ferat.proofs.DeletionLaws.{deletion-bad, deletion-high, deletion-ended, deletion-judged, listed-all}
 use borrow.Author.Needs.{needs}
 use Rattle.ferat.proofs.deletion_lines.deletion_line.Statement.{statement}
 use Rattle.ferat.proofs.deletion_lines.deletion_line.Tie as tie
@@ -25,15 +25,23 @@ undo-requires c κs = search needs
 list-line-requires : tie.Need-list-line-requires
 list-line-requires c κs = search needs
 
+enum-known-n : tie.Need-enum-known-n
+enum-known-n c = search needs
+
+enum-told-2 : tie.Need-enum-told-2
+enum-told-2 c = search needs
+
+returns-3 : tie.Need-returns-3
+returns-3 c = λ t w. absurd (deletion-ended _ _ (sym (c .before .before .before .before .before .before .before .before .before .before .before .before .clause-at .ensures) ∙ c .before .before .before .before .before .before .before .before .before .before .m .given .1) (c .before .before .list-line .ensures .1 (c .enum-told2 .given .1)))
+
 delete-requires : tie.Need-delete-requires
 delete-requires c κs = search needs
 
 same-length : tie.Need-same-length
 same-length c = search needs
 
-returns-3 : tie.Need-returns-3
-returns-3 c = let s = c .before .before .before .before .before in let r = s .before .before .before .before .before .before in
-    λ t w. deletion-judged _ _ _ _ _ (sym (r .before .before .before .before .clause-at .ensures) ∙ r .before .before .m .given .1) (r .if1 .left) (s .before .before .before .undo .ensures) (s .list-line .ensures) (c .before .delete .ensures t w)
+returns-4 : tie.Need-returns-4
+returns-4 c = λ t w. deletion-judged _ _ _ _ _ (sym (c .before .before .before .before .before .before .before .before .before .before .before .before .before .before .before .before .before .before .clause-at .ensures) ∙ c .before .before .before .before .before .before .before .before .before .before .before .before .before .before .before .before .m .given .1) (c .before .before .before .before .before .before .before .before .before .before .before .before .before .before .if1 .left) (c .before .before .before .before .before .before .before .before .before .before .before .undo .ensures) (λ h. listed-all _ _ (c .before .before .before .before .before .before .n .given .1) (c .before .before .before .before .before .before .before .before .list-line .ensures .0 h)) (c .before .delete .ensures t w)
 
 pub deletion-line-spec : {M : Type 1} → statement M
 deletion-line-spec =
@@ -46,6 +54,9 @@ deletion-line-spec =
     returns-2
     undo-requires
     list-line-requires
+    enum-known-n
+    enum-told-2
+    returns-3
     delete-requires
     same-length
-    returns-3)
+    returns-4)

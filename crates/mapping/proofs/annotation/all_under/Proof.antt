@@ -1,51 +1,55 @@
-use borrow.Author.Needs.{needs}
 use native.Mathlib.Omega.{arith}
-use mathlib.Core.Path.{_≡_, refl, sym, _∙_}
+use mathlib.Core.Path.{_≡_, refl, _∙_}
+use mathlib.Core.Bool.{true}
 use Prim.Native.Nat.{_-_}
 use lib.ListN.{length}
 use Rattle.lines.specs.Lists.{all}
 use Rattle.prefix.specs.Prefix.{entry}
-use Rattle.mapping.specs.Numbers.{numbersAt}
+use Rattle.lists.specs.Lists.{isList}
+use Rattle.mapping.specs.Numbers.{numbersAt, endOf}
 use Rattle.mapping.specs.Annotation.{under}
-use Rattle.mapping.proofs.NumberLaws.{item-told, all-end, all-more, all-fails}
+use Rattle.mapping.proofs.NumberLaws.{item-told, list-ends, ruled-kept, ruled-broken, all-end, all-more, all-fails}
+use borrow.Author.Needs.{needs}
 use Rattle.mapping.proofs.annotation.all_under.Statement.{statement}
 use Rattle.mapping.proofs.annotation.all_under.Tie as tie
 
 abbrev Inv-loop : tie.InvT-loop
-Inv-loop line from notes prefix i₀ i = all (under (entry prefix) (numbersAt line from)) (numbersAt line i) ≡ all (under (entry prefix) (numbersAt line from)) (numbersAt line notes)
+Inv-loop line from notes prefix i₀ i =
+    isList line from ≡ true → (all (under (entry prefix) (numbersAt line from)) (numbersAt line i) ≡ all (under (entry prefix) (numbersAt line from)) (numbersAt line notes)) × (endOf line i ≡ endOf line notes)
 
 abbrev μ-loop : tie.MeasureT-loop
 μ-loop line from notes prefix i₀ i = length line - i
 
 loop-holds : tie.Need-loop-holds Inv-loop μ-loop
-loop-holds c = refl
+loop-holds c = λ y. (refl, refl)
 
 item-at-requires : tie.Need-item-at-requires Inv-loop μ-loop
 item-at-requires c κs = search needs
 
-enum-known-u : tie.Need-enum-known-u Inv-loop μ-loop
-enum-known-u c = search needs
-
-enum-told : tie.Need-enum-told Inv-loop μ-loop
-enum-told c = search needs
+enum-known-n : tie.Need-enum-known-n Inv-loop μ-loop
+enum-known-n c = search needs
 
 returns : tie.Need-returns Inv-loop μ-loop
-returns c = let s = c .before .before .before in let a = s .before .before .args in
-    all-end (under (entry (a .prefix .now)) (numbersAt (a .line .now) (a .from))) _ _ (s .loop .i) (s .loop .inv) (item-told _ (s .loop .i) (c .enum-told .given .1) (c .before .before .item-at .ensures))
+returns c = let l = c .before .before .before .before in
+    λ y. all-end 8 (under (entry (l .before .before .args .prefix .now)) (numbersAt (l .before .before .args .line .now) (l .before .before .args .from))) _ _ (l .loop .i) (l .loop .inv y) (item-told _ (l .loop .i) (c .before .n .given .1) (c .before .before .before .item-at .ensures))
+
+enum-known-u : tie.Need-enum-known-u Inv-loop μ-loop
+enum-known-u c = search needs
 
 under-requires : tie.Need-under-requires Inv-loop μ-loop
 under-requires c κs = search needs
 
+returns-2 : tie.Need-returns-2 Inv-loop μ-loop
+returns-2 c = let s = c .before .before .before in let l = s .before .before .before in
+    λ y. let r = ruled-broken (c .before .under .ensures) (list-ends _ _ y) (c .if1 .taken) in
+    r .1 ∙ all-fails 8 (under (entry (l .before .before .args .prefix .now)) (numbersAt (l .before .before .args .line .now) (l .before .before .args .from))) _ _ (l .loop .i) (l .loop .inv y) (item-told _ (l .loop .i) (s .u .given .1) (s .before .before .item-at .ensures)) (r .0)
+
 loop-less : tie.Need-loop-less Inv-loop μ-loop
-loop-less c = let o = item-told _ (c .before .before .before .before .before .before .loop .i) (c .before .before .before .u .given .1) (c .before .before .before .before .before .item-at .ensures) in omega arith
+loop-less c = let s = c .before .before .before in let o = item-told _ (s .before .before .before .loop .i) (s .u .given .1) (s .before .before .item-at .ensures) in omega arith
 
 loop-again : tie.Need-loop-again Inv-loop μ-loop
-loop-again c = let at-item-at = c .before .before .before .before .before in let start = at-item-at .before .before .before in
-    all-more (under (entry (start .args .prefix .now)) (numbersAt (start .args .line .now) (start .args .from))) _ _ (at-item-at .before .loop .i) (at-item-at .before .loop .inv) (item-told _ (at-item-at .before .loop .i) (c .before .before .before .u .given .1) (at-item-at .item-at .ensures)) (sym (c .before .under .ensures) ∙ c .if1 .taken)
-
-returns-2 : tie.Need-returns-2 Inv-loop μ-loop
-returns-2 c = let at-item-at = c .before .before .before .before .before in let start = at-item-at .before .before .before in
-    all-fails (under (entry (start .args .prefix .now)) (numbersAt (start .args .line .now) (start .args .from))) _ _ (at-item-at .before .loop .i) (at-item-at .before .loop .inv) (item-told _ (at-item-at .before .loop .i) (c .before .before .before .u .given .1) (at-item-at .item-at .ensures)) (sym (c .before .under .ensures) ∙ c .if1 .left)
+loop-again c = let s = c .before .before .before in let l = s .before .before .before in
+    λ y. all-more 8 (under (entry (l .before .before .args .prefix .now)) (numbersAt (l .before .before .args .line .now) (l .before .before .args .from))) _ _ (l .loop .i) (l .loop .inv y) (item-told _ (l .loop .i) (s .u .given .1) (s .before .before .item-at .ensures)) (ruled-kept (c .before .under .ensures) (list-ends _ _ y) (λ x. omega arith) (c .if1 .left))
 
 pub all-under-spec : {M : Type 1} → statement M
 all-under-spec =
@@ -55,10 +59,10 @@ all-under-spec =
     μ-loop
     loop-holds
     item-at-requires
-    enum-known-u
-    enum-told
+    enum-known-n
     returns
+    enum-known-u
     under-requires
+    returns-2
     loop-less
-    loop-again
-    returns-2)
+    loop-again)

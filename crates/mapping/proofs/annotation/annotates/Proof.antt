@@ -1,5 +1,5 @@
-use mathlib.Core.Path.{refl, sym, _∙_}
-use Rattle.mapping.proofs.AnnotationLaws.{annotates-is}
+use Rattle.mapping.proofs.NumberLaws.{list-ends}
+use Rattle.mapping.proofs.AnnotationLaws.{annotates-1, annotates-2, annotates-3}
 use borrow.Author.Needs.{needs}
 use Rattle.mapping.proofs.annotation.annotates.Statement.{statement}
 use Rattle.mapping.proofs.annotation.annotates.Tie as tie
@@ -7,22 +7,22 @@ use Rattle.mapping.proofs.annotation.annotates.Tie as tie
 existentials-requires : tie.Need-existentials-requires
 existentials-requires c κs = search needs
 
-all-under-requires : tie.Need-all-under-requires
-all-under-requires c κs = search needs
+returns : tie.Need-returns
+returns c = λ y z. annotates-1 _ _ _ (c .before .existentials .ensures) (list-ends _ _ y) (c .if1 .taken)
 
 once-requires : tie.Need-once-requires
 once-requires c κs = search needs
 
-returns : tie.Need-returns
-returns c = c .all-under .ensures ∙ annotates-is _ _ _ (sym (c .before .before .before .before .existentials .ensures) ∙ c .before .before .before .if1 .taken) (sym (c .before .before .once .ensures) ∙ c .before .if2 .taken)
-
 returns-2 : tie.Need-returns-2
-returns-2 c = annotates-is _ _ _ (sym (c .before .before .before .existentials .ensures) ∙ c .before .before .if1 .taken) (sym (c .before .once .ensures) ∙ c .if2 .left)
+returns-2 c = λ y z. annotates-2 _ _ _ (c .before .before .before .existentials .ensures) (list-ends _ _ y) (c .before .before .if1 .left) (c .before .once .ensures) (list-ends _ _ z) (c .if2 .taken)
+
+all-under-requires : tie.Need-all-under-requires
+all-under-requires c κs = search needs
 
 returns-3 : tie.Need-returns-3
-returns-3 c = annotates-is _ _ _ (sym (c .before .existentials .ensures) ∙ c .if1 .left) refl
+returns-3 c = λ y z. annotates-3 _ _ _ (c .before .before .before .before .existentials .ensures) (list-ends _ _ y) (c .before .before .before .if1 .left) (c .before .before .once .ensures) (list-ends _ _ z) (c .before .if2 .left) (c .all-under .ensures y)
 
 pub annotates-spec : {M : Type 1} → statement M
 annotates-spec =
     tie.close
-    (tie.spec existentials-requires once-requires all-under-requires returns returns-2 returns-3)
+    (tie.spec existentials-requires returns once-requires returns-2 all-under-requires returns-3)

@@ -1,5 +1,5 @@
 use mathlib.Core.Path.{sym}
-use Rattle.propagation.proofs.TrailLaws.{look-none, look-some}
+use Rattle.propagation.proofs.MoveLaws.{look-none, look-some}
 use Rattle.propagation.proofs.looks.looked.Statement.{statement}
 use Rattle.propagation.proofs.looks.looked.Tie as tie
 

@@ -3,7 +3,7 @@ use mathlib.Core.Path.{_∙_, sym}
 use Rattle.clauses.proofs.CursorLaws.{read-end, read-more, read-less}
 use Rattle.clauses.specs.Standing.{literalsFrom, left}
 use Rattle.rules.proofs.Kit.{not-t, not-f}
-use Rattle.propagation.proofs.TrailLaws.{Looking, looking-start, looking-end, looking-false, looking-first, looking-again, looking-more}
+use Rattle.propagation.proofs.MoveLaws.{Looking, looking-start, looking-end, looking-false, looking-first, looking-again, looking-more}
 use Rattle.propagation.proofs.looks.read_clause.Statement.{statement}
 use Rattle.propagation.proofs.looks.read_clause.Tie as tie
 

@@ -5,7 +5,7 @@ use mathlib.Core.Logic.{_⊎_, inl, inr}
 use Rattle.clauses.proofs.CursorLaws.{read-end, read-more, read-less}
 use Rattle.clauses.specs.Standing.{literalsFrom, left}
 use Rattle.rules.proofs.Kit.{not-t, not-f, either}
-use Rattle.propagation.proofs.TrailLaws.{Looking, looking-start, seeking-end, looking-false, seeking-one, looking-in}
+use Rattle.propagation.proofs.MoveLaws.{Looking, looking-start, seeking-end, looking-false, seeking-one, looking-in}
 use Rattle.propagation.proofs.looks.seek.Statement.{statement}
 use Rattle.propagation.proofs.looks.seek.Tie as tie
 

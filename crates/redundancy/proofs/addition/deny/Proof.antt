@@ -2,7 +2,7 @@ use borrow.Author.Needs.{needs}
 use mathlib.Core.Path.{sym, _∙_}
 use Rattle.clauses.proofs.CursorLaws.{read-end, read-more, read-less}
 use Rattle.clauses.specs.Standing.{literalsFrom, left}
-use Rattle.propagation.specs.Trail.{Ready}
+use Rattle.trail.specs.Trail.{Ready}
 use Rattle.redundancy.specs.Additions.{lessCode}
 use Rattle.redundancy.proofs.DenyLaws.{Denying, denying-start, denying-done, denying-skip, denying-stop, denying-lit, less-end, less-lit, less-skip}
 use Rattle.redundancy.proofs.addition.deny.Statement.{statement}

@@ -3,7 +3,7 @@ use native.Mathlib.Omega.{arith}
 use mathlib.Core.Path.{sym, _∙_}
 use Prim.Native.Nat.{_-_}
 use Rattle.clauses.specs.Standing.{standing, literalsFrom}
-use Rattle.propagation.specs.Trail.{Ready}
+use Rattle.trail.specs.Trail.{Ready}
 use Rattle.redundancy.specs.Additions.{Follows}
 use Rattle.rules.proofs.Kit.{not-t, not-f}
 use Rattle.redundancy.proofs.AdditionLaws.{Walking, walking-start, walking-end, walking-off, walking-out, walking-yes, walking-no, follows-kept}

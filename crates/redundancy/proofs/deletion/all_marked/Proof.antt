@@ -4,7 +4,7 @@ use Rattle.clauses.proofs.CursorLaws.{read-end, read-more, read-less}
 use Rattle.clauses.specs.Standing.{literalsFrom, left}
 use Rattle.lines.specs.Lists.{all}
 use Rattle.rules.proofs.Kit.{not-t, not-f}
-use Rattle.propagation.specs.Trail.{off}
+use Rattle.trail.specs.Trail.{off}
 use Rattle.redundancy.proofs.DeletionLaws.{all-end, all-yes, all-no}
 use Rattle.redundancy.proofs.deletion.all_marked.Statement.{statement}
 use Rattle.redundancy.proofs.deletion.all_marked.Tie as tie

@@ -1,5 +1,5 @@
 use native.Mathlib.Omega.{arith}
-use Rattle.propagation.proofs.TrailLaws.{ready-empty}
+use Rattle.trail.proofs.TrailLaws.{ready-empty}
 use borrow.Author.Needs.{needs}
 use Rattle.redundancy.proofs.deletion.delete.Statement.{statement}
 use Rattle.redundancy.proofs.deletion.delete.Tie as tie

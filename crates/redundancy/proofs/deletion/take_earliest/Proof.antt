@@ -1,10 +1,10 @@
-use borrow.Author.Needs.{needs}
 use native.Mathlib.Omega.{arith}
 use mathlib.Core.Path.{_≡_, refl, sym, _∙_}
 use Prim.Native.Nat.{_-_}
 use lib.ListN.{length, take}
 use Rattle.redundancy.specs.Deletions.{Listed}
-use Rattle.redundancy.proofs.DeletionLaws.{Taking, taking-start, taking-off, taking-no, taking-at, taking-end}
+use Rattle.redundancy.proofs.DeletionLaws.{Taking, taking-start, taking-pass, taking-no, taking-at, taking-end}
+use borrow.Author.Needs.{needs}
 use Rattle.redundancy.proofs.deletion.take_earliest.Statement.{statement}
 use Rattle.redundancy.proofs.deletion.take_earliest.Tie as tie
 
@@ -15,43 +15,35 @@ Inv-loop table marks₀ count falses trail n found₀ place₀ marks found place
 abbrev μ-loop : tie.MeasureT-loop
 μ-loop table marks₀ count falses trail n found₀ place₀ marks found place = count - place
 
+candidate-requires : tie.Need-candidate-requires Inv-loop μ-loop
+candidate-requires c κs = search needs
+
 loop-holds : tie.Need-loop-holds Inv-loop μ-loop
-loop-holds c = (refl, λ l. taking-start _ _ _ _)
+loop-holds c = (refl, λ l. taking-pass _ _ _ _ _ _ _ _ _ l refl _ (taking-start _ _ _ _) _ (c .candidate .ensures .0) (c .candidate .ensures .1))
 
 add-place : tie.Need-add-place Inv-loop μ-loop
 add-place c = omega (arith, c .loop-test .taken)
 
-stands-requires : tie.Need-stands-requires Inv-loop μ-loop
-stands-requires c κs = search needs
-
-clause-requires : tie.Need-clause-requires Inv-loop μ-loop
-clause-requires c κs = search needs
-
-is-same-requires : tie.Need-is-same-requires Inv-loop μ-loop
-is-same-requires c κs = search needs
+is-there-requires : tie.Need-is-there-requires Inv-loop μ-loop
+is-there-requires c κs = search needs
 
 remove-requires : tie.Need-remove-requires Inv-loop μ-loop
 remove-requires c κs = search needs
 
 loop-less : tie.Need-loop-less Inv-loop μ-loop
-loop-less c = omega (arith, c .before .before .before .before .before .before .before .before .before .before .loop-test .taken)
+loop-less c = omega (arith, c .before .before .before .before .before .before .loop-test .taken)
 
 loop-again : tie.Need-loop-again Inv-loop μ-loop
-loop-again c = let s = c .before .before .before in let r = s .before .before .before .before in let t = r .before .before .before in
-    (c .before .remove .kept .0 ∙ t .before .loop .inv .0, λ l. taking-at _ _ _ _ _ _ (t .loop-test .taken) _ (s .before .before .clause .ensures) _ (s .before .is-same .ensures l) _ (t .before .loop .inv .1 l) (sym (r .before .stands .ensures) ∙ r .if1 .taken) (s .if2 .taken) (c .before .remove .ensures))
+loop-again c = (c .before .remove .kept .0 ∙ c .before .before .before .before .before .before .before .loop .inv .0, λ l. taking-at _ _ _ _ _ _ (c .before .before .before .before .before .before .loop-test .taken) _ (c .before .before .before .before .is-there .ensures l) _ (c .before .before .before .before .before .before .before .loop .inv .1 l) (c .before .before .before .if1 .taken) (c .before .remove .ensures))
+
+candidate-requires-2 : tie.Need-candidate-requires-2 Inv-loop μ-loop
+candidate-requires-2 c κs = search needs
 
 loop-less-2 : tie.Need-loop-less-2 Inv-loop μ-loop
-loop-less-2 c = omega (arith, c .before .before .before .before .before .before .before .loop-test .taken)
+loop-less-2 c = omega (arith, c .before .before .before .before .before .loop-test .taken, c .candidate2 .ensures .0)
 
 loop-again-2 : tie.Need-loop-again-2 Inv-loop μ-loop
-loop-again-2 c = let s = c .before .before .before .before .before .before .before in
-    (s .before .loop .inv .0, λ l. taking-no _ _ _ _ _ _ (s .loop-test .taken) _ (c .before .before .clause .ensures) _ (c .before .is-same .ensures l) _ (s .before .loop .inv .1 l) (c .if2 .left))
-
-loop-less-3 : tie.Need-loop-less-3 Inv-loop μ-loop
-loop-less-3 c = omega (arith, c .before .before .before .loop-test .taken)
-
-loop-again-3 : tie.Need-loop-again-3 Inv-loop μ-loop
-loop-again-3 c = (c .before .before .before .before .loop .inv .0, λ l. taking-off _ _ _ _ _ _ (c .before .before .before .loop-test .taken) _ (c .before .before .before .before .loop .inv .1 l) (sym (c .before .stands .ensures) ∙ c .if1 .left))
+loop-again-2 c = (c .before .before .before .before .before .before .loop .inv .0, λ l. taking-pass _ _ _ _ _ _ _ _ _ l refl _ (taking-no _ _ _ _ _ _ (c .before .before .before .before .before .loop-test .taken) _ (c .before .before .before .is-there .ensures l) _ (c .before .before .before .before .before .before .loop .inv .1 l) (c .before .before .if1 .left)) _ (c .candidate2 .ensures .0) (c .candidate2 .ensures .1))
 
 same-length : tie.Need-same-length Inv-loop μ-loop
 same-length c = c .before .loop .inv .0
@@ -65,17 +57,15 @@ take-earliest-spec =
     (tie.spec
     Inv-loop
     μ-loop
+    candidate-requires
     loop-holds
     add-place
-    stands-requires
-    clause-requires
-    is-same-requires
+    is-there-requires
     remove-requires
     loop-less
     loop-again
+    candidate-requires-2
     loop-less-2
     loop-again-2
-    loop-less-3
-    loop-again-3
     same-length
     returns)

@@ -1,0 +1,2 @@
+-- Laws of crate trail.
+pub mod TrailLaws

@@ -1,0 +1,2 @@
+-- What the contracts of the trail say.
+pub mod Trail
