@@ -11,9 +11,9 @@ use Rattle.lines.specs.Scan.{literalAt}
 use Rattle.lines.specs.declared.Literal.{Literal}
 use Rattle.cells.specs.Cells.{upTo}
 use Rattle.lists.specs.declared.Clause.{Clause}
-use Rattle.lists.specs.Lists.{litsAt, isList, clauseAt}
+use Rattle.lists.specs.Lists.{litsAt, clauseAt}
 use Rattle.lists.specs.Stores.{codesAt, written, inRange}
-use Rattle.lists.proofs.ListLaws.{all-low, listing-list, listed-low, listed-high, listed-range}
+use Rattle.lists.proofs.ListLaws.{all-low, listed-low, listed-high, listed-range}
 use Rattle.lists.proofs.FormLaws.{Seen, clause-told, as-clause, bad-clause}
 use Rattle.lists.proofs.StoreLaws.{codes-end, codes-more, codes-listed}
 use Rattle.rules.specs.Basics.{greatest, isIn}
@@ -26,7 +26,7 @@ use Rattle.rules.specs.Step as rules
 use Rattle.rules.specs.Codes.{sign, codeOf}
 use Rattle.rules.specs.CertificateLines.{State, inSequence, judge}
 use Rattle.rules.specs.CertificateLines as lines
-use Rattle.rules.proofs.Kit.{and-l, and-r, clear}
+use Rattle.rules.proofs.Kit.{and-l, and-r}
 use Rattle.tables.specs.Tables.{Tables, lengthsOf}
 use Rattle.tables.proofs.Frames.{all-self}
 use Rattle.trail.specs.Trail.{Trailed, Undone}
@@ -94,10 +94,6 @@ module _ (bs : List ℕ) (at : ℕ) where
 -- the answer
 pub listed-all : (bs : List ℕ) (at : ℕ) {f t : List ℕ} {r : LineList} {n : ℕ} → r ≡ LineList.All n → ListedBy bs at f t r → LineListed bs at f t n
 listed-all bs at {f} {t} e h = subst (ListedBy bs at f t) e h
-
--- a line that the first pass has read is a list
-pub deletion-ended : (bs : List ℕ) (at : ℕ) {s n m : ℕ} → clauseAt bs at ≡ Clause.Good s n m → isList bs at ≡ false → ⊥
-deletion-ended bs at h e = clear (listing-list bs at (clause-told bs at h .listing)) e
 
 -- a list of codes and its end mark
 code-large : (n : ℕ) (l : Lit) → (leb 1 (var l) && leb (var l) n) ≡ true → codeOf l ≡ 0 → ⊥

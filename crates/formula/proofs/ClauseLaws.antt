@@ -26,7 +26,7 @@ use Rattle.lists.specs.Lists.{clauseAt, litsAt}
 use Rattle.lists.specs.Stores.{codesAt, endingAt, puts, written, inRange}
 use Rattle.lists.proofs.ListLaws.{listing-list, all-low, listed-low, listed-high, listed-range}
 use Rattle.lists.proofs.FormLaws.{Seen, clause-told, as-clause, bad-clause}
-use Rattle.lists.proofs.StoreLaws.{Stored, list-in-table, flat-snoc}
+use Rattle.lists.proofs.StoreLaws.{Stored, ending-good, list-in-table, flat-snoc}
 use Rattle.formula.specs.declared.Reading.{Reading}
 use Rattle.formula.specs.declared.State.{State}
 use Rattle.formula.specs.declared.Outcome.{Outcome}
@@ -59,8 +59,7 @@ module _ (bs : List ℕ) (r : Reading) (p m : List ℤ) where
 
     -- the second pass meets no bad token: the first met none
     pub clause-never : {e : Ending} {w : List ℤ} → e ≡ endingAt bs 0 → e ≡ Ending.Bad → LineRead (clauseJudge bs) (State.Within r) (length bs) p m (Outcome.Refuse 2) p w
-    unfolding endingAt
-    clause-never e b = absurd (let k = sym b ∙ e ∙ ap (λ t. cond t Ending.Zero Ending.Bad) (listing-list bs 0 (seen .listing)) in let z : _≡_ {A = ℕ} 0 1 = cc in omega arith)
+    clause-never e b = absurd (ending-good bs 0 e b (listing-list bs 0 (seen .listing)))
 
     pub clause-high : r .v < g → LineRead (clauseJudge bs) (State.Within r) (length bs) p m (Outcome.Refuse 3) p m
     clause-high i = untouched (clauseJudge bs) (length bs) p m r some (λ l f o k. rules l f ∙

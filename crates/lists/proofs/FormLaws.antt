@@ -21,7 +21,7 @@ use Rattle.lists.specs.declared.Clause.{Clause}
 use Rattle.lists.specs.declared.Mapping.{Mapping}
 use Rattle.lists.specs.declared.Ending.{Ending}
 use Rattle.lists.specs.Stores.{endingAt}
-use Rattle.lists.specs.Lists.{placeAfter, signs, capped, listedAt, litsAt, exactly, surveyed, clauseAt, mapped, mappingAt}
+use Rattle.lists.specs.Lists.{placeAfter, signs, capped, listedAt, litsAt, isList, exactly, surveyed, clauseAt, mapped, mappingAt}
 use Rattle.lists.proofs.ListLaws.{upto-zero, upto-more, Listing, listing-list, listed-lost, listed-told}
 use Rattle.lists.proofs.StoreLaws.{ending-good}
 
@@ -176,9 +176,12 @@ module _ (bs : List ℕ) (at : ℕ) where
                 ends = none-more e q;
               }
 
-  -- the second pass over such a line meets its zero
+  -- such a line is a list, and the second pass over it meets its zero
+  pub clause-list : {s n m : ℕ} → clauseAt bs at ≡ Clause.Good s n m → isList bs at ≡ true
+  clause-list h = listing-list bs at (clause-told h .listing)
+
   pub clause-ended : {s n m : ℕ} → clauseAt bs at ≡ Clause.Good s n m → {r : Ending} → r ≡ endingAt bs at → r ≡ Ending.Bad → ⊥
-  clause-ended h q e = ending-good bs at q e (listing-list bs at (clause-told h .listing))
+  clause-ended h q e = ending-good bs at q e (clause-list h)
 
   module _ {s n m : ℕ} (o : Seen bs at s n m) where
     pub exact : exactly literal (tokensFrom bs at) ≡ some (litsAt bs at)

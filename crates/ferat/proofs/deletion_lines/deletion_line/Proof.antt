@@ -1,5 +1,7 @@
 use mathlib.Core.Path.{sym, _∙_}
-use Rattle.ferat.proofs.DeletionLaws.{deletion-bad, deletion-high, deletion-ended, deletion-judged, listed-all}
+use Rattle.rules.proofs.Kit.{clear}
+use Rattle.lists.proofs.FormLaws.{clause-list}
+use Rattle.ferat.proofs.DeletionLaws.{deletion-bad, deletion-high, deletion-judged, listed-all}
 use borrow.Author.Needs.{needs}
 use Rattle.ferat.proofs.deletion_lines.deletion_line.Statement.{statement}
 use Rattle.ferat.proofs.deletion_lines.deletion_line.Tie as tie
@@ -32,7 +34,7 @@ enum-told-2 : tie.Need-enum-told-2
 enum-told-2 c = search needs
 
 returns-3 : tie.Need-returns-3
-returns-3 c = λ t w. absurd (deletion-ended _ _ (sym (c .before .before .before .before .before .before .before .before .before .before .before .before .clause-at .ensures) ∙ c .before .before .before .before .before .before .before .before .before .before .m .given .1) (c .before .before .list-line .ensures .1 (c .enum-told2 .given .1)))
+returns-3 c = λ t w. absurd (clear (clause-list _ _ (sym (c .before .before .before .before .before .before .before .before .before .before .before .before .clause-at .ensures) ∙ c .before .before .before .before .before .before .before .before .before .before .m .given .1)) (c .before .before .list-line .ensures .1 (c .enum-told2 .given .1)))
 
 delete-requires : tie.Need-delete-requires
 delete-requires c κs = search needs
