@@ -1,5 +1,11 @@
 //! The three calls of the proved library (crate `ferat_c`), for Rust. The two
 //! checks take about 2.2 MiB of stack: more than a thread has by default.
+//! `explain` puts a refusal into words, and is not proved.
+
+pub mod explain;
+mod facts;
+mod malformed;
+mod text;
 
 use std::os::raw::c_uint;
 
@@ -58,6 +64,34 @@ extern "C" {
 /// check wrote to, hold no verdict.
 pub const ACCEPTED: u32 = 1;
 pub const REFUSED: u32 = 2;
+
+/// The words of the numbers; 0 is an acceptance.
+pub const WORDS: [&str; 16] = [
+    "accepted",
+    "overlong",
+    "malformed",
+    "out of range",
+    "bound twice",
+    "unbound",
+    "wrong clause count",
+    "mapped twice",
+    "bad annotation",
+    "unmapped",
+    "hint count",
+    "no expansion",
+    "not implied",
+    "nothing to delete",
+    "not closed",
+    "table full",
+];
+
+/// A longer file is refused 1, whatever its bytes are.
+pub const LONGEST: usize = 1_048_576;
+
+/// The largest needs that two such files can have: the variables; for each
+/// place of matrix, map and proof a number and the byte that parts it from
+/// the next; for each mark a line's zero and byte 10; the copies.
+pub const PLACES: [usize; 6] = [4_096, 524_288, 524_288, 524_288, 524_288, 16_384];
 
 /// The six tables, lent: prefix, matrix, map, proof, marks, values.
 pub type Tables<'a> = [&'a mut [i32]; 6];

@@ -1,137 +1,133 @@
-//! `ferat FORMULA CERTIFICATE ...`: the pairs of files are checked as one
-//! list in the same tables. For each pair the verdict's seven fields are
-//! printed and, for a refusal, the file's name, the line's number, the
-//! number's word and the line. Exit status: 0 all accepted, 1 one refused, 2
-//! trouble: then no verdict is printed or, where printing itself failed, what
-//! was printed counts for nothing.
+//! `hutsvida VERB ..`: the verbs are in `help/`, a text for each. What a check
+//! prints: for each pair of files the verdict's seven fields when they are
+//! known, and below a refusal, indented, where and why. Exit status: 0 all
+//! accepted, 1 one refused, 2 trouble.
 
+mod files;
+mod memory;
+mod streams;
+
+use hutsvida::{explain, PLACES, WORDS};
 use std::ffi::{OsStr, OsString};
-use std::fs::File;
-use std::io::{Read, Write};
+use std::io::Write;
 use std::process::ExitCode;
 
-const USAGE: &str = "usage: ferat FORMULA CERTIFICATE [FORMULA CERTIFICATE ...]";
+#[global_allocator]
+static MEMORY: memory::Memory = memory::Memory;
 
-/// A longer file is refused 1 whatever its bytes: no more than one byte
-/// beyond this is read.
-const LONGEST: u64 = 1_048_576;
-
-/// The largest needs that two such files can have: the variables; for each
-/// place of matrix, map and proof a number and the byte that parts it from
-/// the next; for each mark a line's zero and byte 10; the copies.
-const PLACES: [usize; 6] = [4_096, 524_288, 524_288, 524_288, 524_288, 16_384];
-
-/// The call takes about 2.2 MiB.
+/// A check takes about 2.2 MiB.
 const STACK: usize = 16 << 20;
 
-/// Document 01's words for the numbers.
-const WORDS: [&str; 16] = [
-    "accepted",
-    "overlong",
-    "malformed",
-    "out of range",
-    "bound twice",
-    "unbound",
-    "wrong clause count",
-    "mapped twice",
-    "bad annotation",
-    "unmapped",
-    "hint count",
-    "no expansion",
-    "not implied",
-    "nothing to delete",
-    "not closed",
-    "table full",
+/// The verbs and what `help` says of each.
+const HELP: [(&str, &str); 3] = [
+    ("ferat", include_str!("../help/ferat.txt")),
+    ("help", include_str!("../help/help.txt")),
+    ("version", include_str!("../help/version.txt")),
 ];
 
-/// A pair's files in the packed bytes, and their names.
+/// Two files and their names.
 struct Pair<'a> {
     names: [&'a OsStr; 2],
-    formula: &'a [u8],
-    certificate: &'a [u8],
-}
-
-fn read_onto(bytes: &mut Vec<u8>, name: &OsStr) -> Result<(), String> {
-    let failed = |error| format!("cannot read {}: {error}", shown(name));
-    let file = File::open(name).map_err(failed)?;
-    file.take(LONGEST + 1).read_to_end(bytes).map_err(failed)?;
-    Ok(())
-}
-
-/// A name for a message: control characters and backslashes are escaped.
-fn shown(name: &OsStr) -> String {
-    let escape = |c: char| if c.is_control() || c == '\\' { c.escape_default().to_string() } else { c.to_string() };
-    name.to_string_lossy().chars().map(escape).collect()
-}
-
-/// Seven numbers for each pair, from one list of checks in tables of zeros.
-fn verdicts(bytes: &[u8], ends: &[usize]) -> Result<Vec<u32>, String> {
-    let check = || {
-        let mut stores = PLACES.map(|places| vec![0; places]);
-        let mut out = vec![0; ends.len() / 2 * 7];
-        hutsvida::check_all(bytes, ends, stores.each_mut().map(|store| store.as_mut_slice()), &mut out);
-        out
-    };
-    std::thread::scope(|scope| {
-        let thread = std::thread::Builder::new().stack_size(STACK).spawn_scoped(scope, check);
-        let thread = thread.map_err(|error| format!("cannot start the check: {error}"))?;
-        thread.join().map_err(|_| "the check was cut off".to_string())
-    })
+    files: [&'a [u8]; 2],
 }
 
 /// A verdict's line and, for a refusal, where it is and why.
-fn print_pair(text: &mut Vec<u8>, pair: &Pair, seven: &[u32]) {
+fn report(pair: &Pair, seven: &[u32; 7]) -> String {
     let accepted = seven[0] == hutsvida::ACCEPTED;
     let word = if accepted { "accepted" } else { "refused" };
     let numbers: Vec<String> = seven[1..].iter().map(u32::to_string).collect();
-    text.extend(format!("{word},{}\n", numbers.join(",")).bytes());
+    let mut text = format!("{word},{}\n", numbers.join(","));
     if accepted {
-        return;
+        return text;
     }
-    let (file, line) = (seven[2], seven[3]);
-    let name = shown(pair.names[if file == 1 { 0 } else { 1 }]);
-    text.extend(format!("  {name}:{line}: {}", WORDS[seven[1] as usize]).bytes());
+    let [_, number, file, line, ..] = *seven;
+    let name = files::shown_name(pair.names[if file == 1 { 0 } else { 1 }]);
+    text += &format!("  {name}:{line}: {}", WORDS[number as usize]);
     if line > 0 {
-        let bytes = if file == 1 { pair.formula } else { pair.certificate };
-        let [start, end] = hutsvida::line_ends(pair.formula, pair.certificate, file, line as usize);
-        text.extend(format!(": {}", bytes[start..end].escape_ascii()).bytes());
+        text += &format!(": {}", explain::shown_line(pair.files, file, line as usize));
     }
-    text.push(10);
+    text.push('\n');
+    for reason in explain::reasons(pair.files, &PLACES, seven) {
+        text += &format!("    {reason}\n");
+    }
+    text
 }
 
-fn run(names: &[OsString]) -> Result<bool, String> {
+/// Checks the pairs one after the other in the same tables, and prints each
+/// verdict when it is known; answers whether all were accepted.
+fn check_pairs(names: &[OsString], bytes: &[Vec<u8>]) -> Result<bool, String> {
+    let mut stores = PLACES.map(|places| vec![0; places]);
+    let mut accepted = true;
+    for (names, bytes) in names.chunks(2).zip(bytes.chunks(2)) {
+        let pair = Pair { names: [&names[0], &names[1]], files: [&bytes[0], &bytes[1]] };
+        let tables = stores.each_mut().map(|store| store.as_mut_slice());
+        let seven = hutsvida::check(pair.files[0], pair.files[1], tables);
+        accepted &= seven[0] == hutsvida::ACCEPTED;
+        streams::print(report(&pair, &seven).as_bytes())?;
+    }
+    Ok(accepted)
+}
+
+fn ferat(names: &[OsString]) -> Result<bool, String> {
     if names.is_empty() || names.len() % 2 != 0 {
-        return Err(USAGE.to_string());
+        return Err(format!("files come in pairs, FORMULA CERTIFICATE, and {} were given\n{}", names.len(), HELP[0].1));
     }
-    let (mut bytes, mut ends) = (Vec::new(), Vec::new());
-    for name in names {
-        read_onto(&mut bytes, name)?;
-        ends.push(bytes.len());
+    if streams::output_closed() {
+        return Err("cannot print: standard output is closed".to_string());
     }
-    let numbers = verdicts(&bytes, &ends)?;
-    let mut text = Vec::new();
-    for (index, seven) in numbers.chunks(7).enumerate() {
-        let from = if index == 0 { 0 } else { ends[2 * index - 1] };
-        let pair = Pair {
-            names: [&names[2 * index], &names[2 * index + 1]],
-            formula: &bytes[from..ends[2 * index]],
-            certificate: &bytes[ends[2 * index]..ends[2 * index + 1]],
-        };
-        print_pair(&mut text, &pair, seven);
+    let bytes = files::read_all(names)?;
+    std::thread::scope(|scope| {
+        let check = || check_pairs(names, &bytes);
+        let thread = std::thread::Builder::new().stack_size(STACK).spawn_scoped(scope, check);
+        let thread = thread.map_err(|error| format!("cannot start the check: {error}"))?;
+        thread.join().map_err(|_| "the check was cut off".to_string())?
+    })
+}
+
+fn help(verbs: &[OsString]) -> Result<bool, String> {
+    let text = match verbs {
+        [] => Some(include_str!("../help/main.txt")),
+        [verb] => HELP.iter().find(|(name, _)| verb == name).map(|(_, text)| *text),
+        _ => return Err("help takes one verb at most".to_string()),
+    };
+    let text = text.ok_or_else(|| unknown(&verbs[0]))?;
+    streams::print(text.as_bytes())?;
+    Ok(true)
+}
+
+fn version(words: &[OsString]) -> Result<bool, String> {
+    if !words.is_empty() {
+        return Err("version takes no word more".to_string());
     }
-    let mut out = std::io::stdout();
-    let printed = out.write_all(&text).and_then(|()| out.flush());
-    printed.map_err(|error| format!("cannot print the verdicts: {error}"))?;
-    Ok(numbers.chunks(7).all(|seven| seven[0] == hutsvida::ACCEPTED))
+    let sources = option_env!("HUTSVIDA_SOURCES").unwrap_or("not named");
+    streams::print(format!("hutsvida {}\nsources {sources}\n", env!("CARGO_PKG_VERSION")).as_bytes())?;
+    Ok(true)
+}
+
+fn unknown(verb: &OsStr) -> String {
+    format!("there is no verb {}\n{}", files::shown_name(verb), include_str!("../help/main.txt"))
+}
+
+/// Whether all was accepted; trouble is a message.
+fn run(words: &[OsString]) -> Result<bool, String> {
+    let Some((verb, rest)) = words.split_first() else {
+        return Err(format!("a verb is due\n{}", include_str!("../help/main.txt")));
+    };
+    match verb.to_str() {
+        Some("ferat") => ferat(rest),
+        Some("help" | "--help") => help(rest),
+        Some("version" | "--version") => version(rest),
+        _ => Err(unknown(verb)),
+    }
 }
 
 fn main() -> ExitCode {
-    let names: Vec<OsString> = std::env::args_os().skip(1).collect();
-    match run(&names) {
+    let words: Vec<OsString> = std::env::args_os().skip(1).collect();
+    match run(&words) {
         Ok(true) => ExitCode::from(0),
         Ok(false) => ExitCode::from(1),
         Err(message) => {
-            let _ = writeln!(std::io::stderr(), "ferat: {message}");
+            let _ = writeln!(std::io::stderr(), "hutsvida: {}", message.trim_end());
             ExitCode::from(2)
         }
     }

@@ -2,3 +2,4 @@
 pub mod CursorLaws
 pub mod StandingLaws
 pub mod StoreLaws
+pub mod MemberLaws

@@ -1,11 +1,11 @@
 // The clauses of a certificate in the proof and marks tables. This crate alone knows how they stand there; a clause is named by its place.
 ghost use mathlib.Core.Path.{_≡_};
 ghost use mathlib.Core.List.{[]};
-ghost use mathlib.Core.Bool.{false};
-ghost use Prim.Native.Nat.{_+_, _<_, _≤_};
+ghost use Prim.Native.Nat.{_+_, _<_};
+ghost use Rattle.rules.specs.Basics.{isIn};
 ghost use Rattle.lists.specs.Stores.{endingAt};
-ghost use Rattle.clauses.specs.Standing.{standsIn, clauseIn, standingIn, literalsIn, emptyAt, hasEmpty, literalAt, next};
-ghost use Rattle.clauses.specs.Standing.{NoneIn, placesOf, emptyAbove, pendingFrom, writtenAt, roomFor, stored, removed, StandsNow};
+ghost use Rattle.clauses.specs.Standing.{standsIn, clauseIn, literalsIn, literalAt, next};
+ghost use Rattle.clauses.specs.Standing.{placesOf, emptyAbove, pendingFrom, writtenAt, roomFor, stored, removed, StandsNow};
 use cells::cell;
 use cells::code;
 use cells::put;
@@ -44,40 +44,6 @@ pub fn stands(table: &[i32], marks: &[i32], k: usize) -> bool
     cell(marks, k) % 2 != 0
 }
 
-// Whether a clause stands at one of the four places from k on; true where fewer are left. All four are tested, which is one step of the machine.
-fn near(table: &[i32], marks: &[i32], k: usize) -> bool
-    ensures { λ r. ⌜ (r ≡ false → NoneIn (now (table .entry)) (now (marks .entry)) k (k + 4)) ⌝ }
-{
-    if marks.len() < 4 {
-        return true;
-    }
-    if marks.len() - 4 < k {
-        return true;
-    }
-    let low = stands(table, marks, k) | stands(table, marks, k + 1);
-    low | stands(table, marks, k + 2) | stands(table, marks, k + 3)
-}
-
-// Passes over places from k on at which no clause stands, four at a time and below n; where that ends.
-pub fn passed(table: &[i32], marks: &[i32], k: usize, n: usize) -> usize
-    ensures { λ r. ⌜ (k ≤ r) × NoneIn (now (table .entry)) (now (marks .entry)) k r ⌝ }
-{
-    let mut j = k;
-    while j < n {
-        if n < 4 {
-            return j;
-        }
-        if n - 4 < j {
-            return j;
-        }
-        if near(table, marks, j) {
-            return j;
-        }
-        j += 4;
-    }
-    j
-}
-
 // The clause at place k.
 pub fn clause(table: &[i32], marks: &[i32], k: usize) -> Cursor
     ensures { λ r. ⌜ literalsIn (table .entry) r ≡ clauseIn (table .entry) (marks .entry) k ⌝ }
@@ -109,6 +75,23 @@ pub fn after(table: &[i32], c: Cursor) -> Cursor
         return Cursor { at: c.at + 1 };
     }
     c
+}
+
+// Whether a clause holds the literal l.
+pub fn holds(table: &[i32], start: Cursor, l: u32) -> bool
+    ensures { λ r. ⌜ r ≡ isIn (literalsIn (table .entry) start) l ⌝ }
+{
+    let mut i = start;
+    loop {
+        let m = literal(table, i);
+        if m == 0 {
+            return false;
+        }
+        i = after(table, i);
+        if l == m {
+            return true;
+        }
+    }
 }
 
 // Whether a clause of n literals more has its places in tables of these lengths.
@@ -166,28 +149,4 @@ pub fn remove(marks: &mut [i32], k: usize)
 {
     let m = cell(marks, k);
     put(marks, k, m - m % 2);
-}
-
-// Whether the clause at place k stands and is empty.
-fn empty_at(table: &[i32], marks: &[i32], k: usize) -> bool
-    ensures { λ r. ⌜ r ≡ emptyAt (now (table .entry)) (now (marks .entry)) k ⌝ }
-{
-    if stands(table, marks, k) {
-        return literal(table, clause(table, marks, k)) == 0;
-    }
-    false
-}
-
-// Whether an empty clause stands at a place below n.
-pub fn empty_stands(table: &[i32], marks: &[i32], n: usize) -> bool
-    ensures { λ r. ⌜ r ≡ hasEmpty (standingIn (table .entry) (marks .entry) n) ⌝ }
-{
-    let mut k = 0;
-    while k < n {
-        if empty_at(table, marks, k) {
-            return true;
-        }
-        k += 1;
-    }
-    false
 }

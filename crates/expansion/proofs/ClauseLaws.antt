@@ -22,10 +22,11 @@ use Rattle.rules.proofs.Distinct.{isIn-in}
 use Rattle.lists.specs.Stores.{placeOf, inRange}
 use Rattle.lists.proofs.StoreLaws.{all-at, clause-there}
 use Rattle.formula.specs.Shown.{FormulaShown}
-use Rattle.expansion.specs.Index.{placeAt, anyFrom, Indexed}
-use Rattle.expansion.specs.Codes.{standsOf, annotationOf, expandsAt, expandsNamed, expandsAny}
+use Rattle.matrix.specs.Index.{placeAt, anyFrom, Indexed}
+use Rattle.copies.specs.Copies.{standsOf, annotationOf}
+use Rattle.expansion.specs.Codes.{expandsAt, expandsNamed, expandsAny}
 use Rattle.expansion.proofs.Laws.{tables-expand}
-use Rattle.expansion.proofs.IndexLaws.{place-inside}
+use Rattle.matrix.proofs.IndexLaws.{place-inside}
 
 -- THE FORMULA IN ITS TABLES
 range-more : (v w : ℕ) → v ≤ w → (vs : List ℕ) → inRange v vs ≡ true → inRange w vs ≡ true

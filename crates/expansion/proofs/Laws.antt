@@ -24,9 +24,12 @@ use Rattle.rules.proofs.ExpansionLaw.{annotation-in, proper-depends, in-least, 
 use Rattle.prefix.specs.Prefix.{entry, isUniversal, isExistential, dependency}
 use Rattle.prefix.specs.Prefix.{Told}
 use Rattle.prefix.proofs.Laws.{told-universal, told-existential, told-depends, universal-ranged, existential-ranged}
-use Rattle.expansion.specs.Marks.{joined}
-use Rattle.expansion.specs.Codes.{standsOf, annotationOf, imageOf, imagesOf, alone, apart, annotationsOf, negations, partSize, isPart, inClause, inLine, literalsFit, leastOf, copyFits, annotationsFit, expandsCodes, expandsAt}
-use Rattle.expansion.proofs.HeldLaws.{joined-has, joined-from, joined-distinct}
+use Rattle.assignment.specs.Held.{joined}
+use Rattle.copies.specs.Copies.{standsOf, annotationOf, imageOf, imagesOf}
+use Rattle.literals.specs.Literals.{inClause, inLine, literalsFit}
+use Rattle.assignment.specs.Annotations.{alone, apart, annotationsOf, negations, partSize, isPart, leastOf, copyFits, annotationsFit}
+use Rattle.expansion.specs.Codes.{expandsCodes, expandsAt}
+use Rattle.assignment.proofs.HeldLaws.{joined-has, joined-from, joined-distinct}
 use Rattle.expansion.proofs.Counting.{same-count}
 
 -- WHAT THE TABLES SHOW: the prefix with variables up to n, none above 4096, the line, the clause with its variables bound, and of the line's copies, all

@@ -1,4 +1,2 @@
--- The expansion test over codes, marks, and where the clauses start.
-pub mod Marks
-pub mod Index
+-- The expansion test over codes.
 pub mod Codes

@@ -1,14 +1,5 @@
 // Whether an `e` line is an expansion of a matrix clause, over the tables.
-mod annotations;
-mod copies;
-mod index;
-mod least;
-mod literals;
-mod marks;
-mod read;
-
-pub use index::Starts;
-pub use index::index_clauses;
+use matrix::Starts;
 ghost use mathlib.Core.Path.{_≡_};
 ghost use Rattle.expansion.specs.Codes.{expandsAt, expandsNamed, expandsAny};
 
@@ -27,7 +18,7 @@ pub fn expands(
 {
     if literals::first_in_clause(prefix, values, map, proof, l, matrix, c) {
         if literals::literals_fit(prefix, values, map, proof, l, matrix, c) {
-            return annotations::annotations_fit(prefix, values, map, proof, l, matrix, c);
+            return assignment::annotations_fit(prefix, values, map, proof, l, matrix, c);
         }
     }
     false
@@ -54,7 +45,7 @@ pub fn expands_named(
         proof,
         l,
         matrix,
-        index::named(starts, n),
+        matrix::named(starts, n),
     )
 }
 
@@ -74,7 +65,7 @@ pub fn expands_any(
 {
     let mut i: usize = 0;
     while i < c {
-        let k = index::place(starts, i);
+        let k = matrix::place(starts, i);
         i += 1;
         if literals::first_in_clause(prefix, values, map, proof, l, matrix, k) {
             if expands(prefix, values, map, proof, l, matrix, k) {

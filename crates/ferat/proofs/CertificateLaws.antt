@@ -22,12 +22,12 @@ use Rattle.rules.specs.Step.{_unless_, _then_, refuseIn, goOn, judgeLines, judg
 use Rattle.rules.specs.CertificateLines.{State, start, needing, inSequence, inRange, kindRules, accept, judge, certificateEnd, readCertificate}
 use Rattle.tables.specs.Tables.{Tables, lengthsOf, KeptAll}
 use Rattle.tables.proofs.Frames.{same-lengths, all-self, Below, below-self, all-then}
-use Rattle.steps.specs.declared.Counts.{Counts}
-use Rattle.steps.specs.declared.Progress.{Progress}
-use Rattle.steps.specs.declared.Step.the-variants.{Next, Refuse}
-use Rattle.steps.specs.Shown.{Work, Shown, Stepped, weight}
-use Rattle.steps.specs.Judges.{endBroken}
-use Rattle.steps.proofs.EndLaws.{numbered, end-is}
+use Rattle.progress.specs.declared.Counts.{Counts}
+use Rattle.progress.specs.declared.Progress.{Progress}
+use Rattle.progress.specs.declared.Step.the-variants.{Next, Refuse}
+use Rattle.progress.specs.Shown.{Work, Shown, Stepped, weight}
+use Rattle.progress.specs.Order.{endBroken}
+use Rattle.progress.proofs.EndLaws.{numbered, end-is}
 use Rattle.ferat.specs.declared.certificate.Ended.the-variants.{Closed, Refused}
 use Rattle.ferat.specs.Certificate.{Counted, judgeLine, EndedAs, endedBy, Going}
 

@@ -27,9 +27,9 @@ use Rattle.formula.specs.declared.Answer.the-variants as answer
 use Rattle.formula.specs.Answers.{Answers, Answered, reading, readState}
 use Rattle.tables.specs.Tables.{Tables, tables, lengthsOf, KeptAll}
 use Rattle.tables.proofs.Frames.{same-lengths, all-self, Below, below-self, all-then}
-use Rattle.expansion.specs.Index.{indexOf}
-use Rattle.steps.specs.declared.Progress.{Progress}
-use Rattle.steps.specs.Shown.{work}
+use Rattle.matrix.specs.Index.{indexOf}
+use Rattle.progress.specs.declared.Progress.{Progress}
+use Rattle.progress.specs.Shown.{work}
 use Rattle.ferat.specs.declared.certificate.Ended.{Ended}
 use Rattle.ferat.specs.declared.certificate.Ended.the-variants as end-of
 use Rattle.ferat.specs.Certificate.{judgeLine, EndedAs, CertificateRead}

@@ -31,17 +31,17 @@ use Rattle.tables.proofs.Rooms.{no-room}
 use Rattle.clauses.specs.Standing.{literals, proofNeed, stored, Pended}
 use Rattle.clauses.proofs.StoreLaws.{pended}
 use Rattle.propagation.proofs.HeldLaws.{held-pended}
-use Rattle.steps.specs.declared.Progress.{Progress}
-use Rattle.steps.specs.declared.Step.{Step}
-use Rattle.steps.specs.declared.Step.the-variants.{Next, Refuse}
-use Rattle.steps.specs.Order.{noAdditions, limitBroken}
-use Rattle.steps.specs.Shown.{Work, needsOf, Shown, Stepped}
+use Rattle.progress.specs.declared.Progress.{Progress}
+use Rattle.progress.specs.declared.Step.{Step}
+use Rattle.progress.specs.declared.Step.the-variants.{Next, Refuse}
+use Rattle.progress.specs.Order.{noAdditions, limitBroken}
+use Rattle.progress.specs.Shown.{Work, needsOf, Shown, Stepped}
 use Rattle.steps.specs.Judges.{kindJudge, Pending, Judges}
 use Rattle.steps.specs.Stands.{needsWith}
 use Rattle.steps.proofs.JudgeLaws.{judge-order, judge-range, judge-room, judge-rest, refused-in}
-use Rattle.steps.proofs.OrderLaws.{order-additions, Passed, Limited, within, beyond, full, limited}
+use Rattle.progress.proofs.OrderLaws.{order-additions, Passed, Limited, within, beyond, full, limited}
 use Rattle.steps.proofs.StandLaws.{Adds, expansions-add, additions-add, clause-needs, clause-room}
-use Rattle.steps.proofs.HintLaws.{hints-kept}
+use Rattle.progress.proofs.HintLaws.{hints-kept}
 use Rattle.ferat.specs.Lines.{judged, Line}
 
 -- the rules' answer by the form

@@ -30,12 +30,12 @@ use Rattle.rules.proofs.Kit.{and-l, and-r}
 use Rattle.tables.specs.Tables.{Tables, lengthsOf}
 use Rattle.tables.proofs.Frames.{all-self}
 use Rattle.trail.specs.Trail.{Trailed, Undone}
-use Rattle.redundancy.specs.Deletions.{Listed, MoreBy}
-use Rattle.redundancy.proofs.DeletionLaws.{listed-start}
-use Rattle.steps.specs.declared.Progress.{Progress}
-use Rattle.steps.specs.declared.Step.{Step}
-use Rattle.steps.specs.declared.Step.the-variants.{Refuse}
-use Rattle.steps.specs.Shown.{Work, work, Shown, Stepped}
+use Rattle.deletion.specs.Deletions.{Listed, MoreBy}
+use Rattle.deletion.proofs.DeletionLaws.{listed-start}
+use Rattle.progress.specs.declared.Progress.{Progress}
+use Rattle.progress.specs.declared.Step.{Step}
+use Rattle.progress.specs.declared.Step.the-variants.{Refuse}
+use Rattle.progress.specs.Shown.{Work, work, Shown, Stepped}
 use Rattle.steps.specs.Judges.{kindJudge, Listing, Deletes}
 use Rattle.steps.proofs.JudgeLaws.{judge-range, judge-rest, refused-in}
 use Rattle.steps.proofs.DeleteLaws.{deletion-needs}

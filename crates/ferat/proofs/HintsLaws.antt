@@ -30,12 +30,12 @@ use Rattle.tables.proofs.Rooms.{fits-room, room-fits, no-room, places-same}
 use Rattle.clauses.specs.Standing.{standing, placesOf, literals, proofNeed, marksNeed, emptyAbove}
 use Rattle.clauses.proofs.StoreLaws.{filled-hints, need-above, standing-above}
 use Rattle.propagation.specs.Answers.{Held}
-use Rattle.steps.specs.declared.Progress.{Progress}
-use Rattle.steps.specs.declared.Step.the-variants.{Next, Refuse}
-use Rattle.steps.specs.Order.{noHints}
-use Rattle.steps.specs.Shown.{Work, needsOf, Shown, weight, Light, Stepped}
+use Rattle.progress.specs.declared.Progress.{Progress}
+use Rattle.progress.specs.declared.Step.the-variants.{Next, Refuse}
+use Rattle.progress.specs.Order.{noHints}
+use Rattle.progress.specs.Shown.{Work, needsOf, Shown, weight, Light, Stepped}
 use Rattle.steps.proofs.JudgeLaws.{judge-order, judge-range, judge-room, judge-rest, judge-next, refused-in, accepted-in}
-use Rattle.steps.proofs.OrderLaws.{order-hints, nothing-before}
+use Rattle.progress.proofs.OrderLaws.{order-hints, nothing-before}
 use Rattle.ferat.specs.Lines.{judged, Line, hintedWith, hintedIn}
 use Rattle.ferat.proofs.ClauseLaws.{judged-none, judged-some, count-low}
 

@@ -13,10 +13,10 @@ use Rattle.rules.specs.Limits.{limits}
 use Rattle.rules.specs.CertificateLines.{State}
 use Rattle.tables.specs.Tables.{Tables, lengthsOf}
 use Rattle.tables.proofs.Frames.{all-self}
-use Rattle.steps.specs.declared.Progress.{Progress}
-use Rattle.steps.specs.declared.Step.{Step}
-use Rattle.steps.specs.declared.Step.the-variants.{Next}
-use Rattle.steps.specs.Shown.{Work, Stepped}
+use Rattle.progress.specs.declared.Progress.{Progress}
+use Rattle.progress.specs.declared.Step.{Step}
+use Rattle.progress.specs.declared.Step.the-variants.{Next}
+use Rattle.progress.specs.Shown.{Work, Stepped}
 use Rattle.ferat.specs.declared.kinds.Kind.{Kind}
 use Rattle.ferat.specs.Kinds.{kindOf}
 use Rattle.ferat.specs.Lines.{judged, Line}

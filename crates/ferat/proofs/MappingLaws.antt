@@ -33,12 +33,12 @@ use Rattle.mapping.specs.declared.Answer.{Answer}
 use Rattle.mapping.specs.declared.Answer.the-variants as answer
 use Rattle.mapping.specs.MappingLine.{Lent, after, refusal, Before, After, Unwritten, Leads, MappingLine}
 use Rattle.expansion.proofs.ClauseLaws.{prefix-told}
-use Rattle.steps.specs.declared.Progress.{Progress}
-use Rattle.steps.specs.declared.Step.{Step}
-use Rattle.steps.specs.declared.Step.the-variants.{Next, Refuse}
-use Rattle.steps.specs.Order.{noHints}
-use Rattle.steps.specs.Shown.{Work, work, needsOf, Shown, Light, Stepped}
-use Rattle.steps.proofs.OrderLaws.{order-hints}
+use Rattle.progress.specs.declared.Progress.{Progress}
+use Rattle.progress.specs.declared.Step.{Step}
+use Rattle.progress.specs.declared.Step.the-variants.{Next, Refuse}
+use Rattle.progress.specs.Order.{noHints}
+use Rattle.progress.specs.Shown.{Work, work, needsOf, Shown, Light, Stepped}
+use Rattle.progress.proofs.OrderLaws.{order-hints}
 use Rattle.ferat.specs.Lines.{judged, Line, mappedIn}
 use Rattle.ferat.proofs.ClauseLaws.{judged-none, judged-some}
 

@@ -14,11 +14,11 @@ use Rattle.rules.specs.Formula.{Formula}
 use Rattle.rules.specs.Limits.{limits}
 use Rattle.rules.specs.CertificateLines.{start, readCertificate}
 use Rattle.tables.specs.Tables.{Tables, lengthsOf}
-use Rattle.steps.specs.declared.Progress.{Progress}
-use Rattle.steps.specs.declared.Step.{Step}
-use Rattle.steps.specs.declared.Step.the-variants.{Next, Refuse}
-use Rattle.steps.specs.Shown.{Work, Shown, Stepped, weight}
-use Rattle.steps.specs.Judges.{endBroken}
+use Rattle.progress.specs.declared.Progress.{Progress}
+use Rattle.progress.specs.declared.Step.{Step}
+use Rattle.progress.specs.declared.Step.the-variants.{Next, Refuse}
+use Rattle.progress.specs.Shown.{Work, Shown, Stepped, weight}
+use Rattle.progress.specs.Order.{endBroken}
 use Rattle.ferat.specs.declared.certificate.Ended.{Ended}
 use Rattle.ferat.specs.declared.certificate.Ended.the-variants.{Refused}
 use Rattle.ferat.specs.Certificate.{judgeLine, EndedAs, endedBy, Going, CertificateRead, AnyLine}

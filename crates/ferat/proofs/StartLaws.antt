@@ -20,13 +20,13 @@ use Rattle.formula.specs.declared.Reading.{Reading}
 use Rattle.formula.specs.Holds.{proper, Holds}
 use Rattle.formula.specs.Shown.{FormulaShown}
 use Rattle.mapping.proofs.LineLaws.{shown-start as none-mapped}
-use Rattle.expansion.specs.Index.{Indexed, indexOf}
-use Rattle.expansion.proofs.IndexLaws.{clauses-indexed}
+use Rattle.matrix.specs.Index.{Indexed, indexOf}
+use Rattle.matrix.proofs.IndexLaws.{clauses-indexed}
 use Rattle.clauses.specs.Standing.{standing, placesOf, literals, emptyAbove}
 use Rattle.clauses.proofs.StoreLaws.{filled-above, need-above, standing-above}
 use Rattle.trail.proofs.TrailLaws.{ready-start}
 use Rattle.propagation.proofs.MoveLaws.{held-empty}
-use Rattle.steps.specs.Shown.{work, needsOf, Shown, weight}
+use Rattle.progress.specs.Shown.{work, needsOf, Shown, weight}
 use Rattle.ferat.specs.Check.{begun}
 
 -- both halves of a test over a list

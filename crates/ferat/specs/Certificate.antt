@@ -13,10 +13,10 @@ use Rattle.rules.specs.Step as rules
 use Rattle.rules.specs.Step.{judgeLines, judgeBytes}
 use Rattle.rules.specs.CertificateLines.{State, start, judge, certificateEnd, readCertificate}
 use Rattle.tables.specs.Tables.{Tables, lengthsOf, KeptAll}
-use Rattle.steps.specs.declared.Counts.{Counts}
-use Rattle.steps.specs.declared.Progress.{Progress}
-use Rattle.steps.specs.declared.Step.{Step}
-use Rattle.steps.specs.Shown.{Work, Shown, weight, Light, Stepped}
+use Rattle.progress.specs.declared.Counts.{Counts}
+use Rattle.progress.specs.declared.Progress.{Progress}
+use Rattle.progress.specs.declared.Step.{Step}
+use Rattle.progress.specs.Shown.{Work, Shown, weight, Light, Stepped}
 use Rattle.ferat.specs.declared.certificate.Ended.{Ended}
 use Rattle.ferat.specs.declared.certificate.Ended.the-variants.{Closed, Refused}
 

@@ -16,7 +16,7 @@ use Rattle.formula.specs.declared.Reading.{Reading}
 use Rattle.formula.specs.Holds.{Holds}
 use Rattle.clauses.specs.declared.Store.{Store}
 use Rattle.clauses.specs.Standing.{emptyAbove}
-use Rattle.steps.specs.declared.Progress.{Progress}
+use Rattle.progress.specs.declared.Progress.{Progress}
 use Rattle.ferat.specs.declared.certificate.Ended.{Ended}
 use Rattle.ferat.specs.declared.certificate.Ended.the-variants as end-of
 use Rattle.ferat.specs.Certificate.{EndedAs}

@@ -21,10 +21,10 @@ use Rattle.tables.specs.Tables.{Tables, tables, lengthsOf}
 use Rattle.mapping.specs.declared.Mapped.{Mapped}
 use Rattle.clauses.specs.declared.Store.{Store}
 use Rattle.clauses.specs.Standing.{emptyAbove}
-use Rattle.redundancy.specs.Deletions.{Listed}
-use Rattle.steps.specs.declared.Progress.{Progress}
-use Rattle.steps.specs.declared.Step.{Step}
-use Rattle.steps.specs.Shown.{Work, work, Shown, Light, Stepped}
+use Rattle.deletion.specs.Deletions.{Listed}
+use Rattle.progress.specs.declared.Progress.{Progress}
+use Rattle.progress.specs.declared.Step.{Step}
+use Rattle.progress.specs.Shown.{Work, work, Shown, Light, Stepped}
 use Rattle.ferat.specs.declared.deletion_lines.LineList.{LineList}
 
 -- the rules' answer to what stands in the line from a place on, read by the form

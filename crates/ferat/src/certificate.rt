@@ -3,7 +3,7 @@ ghost use mathlib.Core.Path.{_≡_};
 ghost use Prim.Native.Nat.{_≤_};
 ghost use lib.ListN.{length};
 ghost use Rattle.tables.specs.Tables.{six};
-ghost use Rattle.steps.specs.Shown.{four};
+ghost use Rattle.progress.specs.Shown.{four};
 ghost use Rattle.ferat.specs.Certificate.{AnyLine, CertificateRead, endedBy};
 use crate::clause_lines::addition_line;
 use crate::clause_lines::expansion_line;
@@ -12,13 +12,13 @@ use crate::hint_lines::hints_line;
 use crate::kinds::Kind;
 use crate::kinds::kind_of;
 use crate::mapping_lines::mapping_line;
-use expansion::Starts;
 use lines::Run;
-use mapping::Noted;
+use mapped::Noted;
+use matrix::Starts;
+use progress::Counts;
+use progress::Progress;
+use progress::Step;
 use propagation::Watches;
-use steps::Counts;
-use steps::Progress;
-use steps::Step;
 use trail::Falses;
 use trail::Trail;
 
@@ -137,7 +137,7 @@ pub fn read_certificate(
         }
         if certificate.len() <= e {
             let counts = q.counts;
-            return at_end(steps::end_broken(q, proof, marks), counts);
+            return at_end(progress::end_broken(q, proof, marks), counts);
         }
         at = e + 1;
         n += 1;

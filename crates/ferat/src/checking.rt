@@ -9,12 +9,12 @@ use crate::certificate::read_certificate;
 use formula::Answer;
 use formula::Reading;
 use mapping::Mapped;
+use progress::Counts;
+use progress::Hinted;
+use progress::Progress;
 use propagation::Units;
 use rules::Report;
 use rules::Verdict;
-use steps::Counts;
-use steps::Hinted;
-use steps::Progress;
 use tables::BYTES;
 
 // Nothing of the certificate is read yet.
@@ -62,7 +62,7 @@ fn check_certificate(
     let mut falses = [0; 65536];
     let mut trail = [0; 65536];
     let mut watches = [propagation::END; 458752];
-    expansion::index_clauses(matrix, r.used, &mut starts);
+    matrix::index_clauses(matrix, r.used, &mut starts);
     read_certificate(
         certificate,
         begin(r),

@@ -1,16 +1,16 @@
 // `e` lines and additions: measured, stored where the proof table is free, then judged there.
 ghost use Rattle.rules.specs.Forms.{clauseForm, expansion, addition};
 ghost use Rattle.tables.specs.Tables.{Tables, six};
-ghost use Rattle.steps.specs.Shown.{Work, four};
+ghost use Rattle.progress.specs.Shown.{Work, four};
 ghost use Rattle.steps.specs.Judges.{beside};
 ghost use Rattle.ferat.specs.Lines.{Line, withThree};
-use expansion::Starts;
 use lists::Clause;
 use lists::Ending;
-use mapping::Noted;
+use mapped::Noted;
+use matrix::Starts;
+use progress::Progress;
+use progress::Step;
 use propagation::Watches;
-use steps::Progress;
-use steps::Step;
 use trail::Falses;
 use trail::Trail;
 
@@ -42,8 +42,8 @@ pub fn expansion_line(
     };
     let counts = p.counts;
     let store = p.store;
-    if steps::before_additions(counts) {
-        let k = steps::limit_broken(p, n, m, proof.len(), marks.len(), values.len());
+    if progress::before_additions(counts) {
+        let k = progress::limit_broken(p, n, m, proof.len(), marks.len(), values.len());
         if k != 0 {
             return Step::Refuse(k);
         }
@@ -89,7 +89,7 @@ pub fn addition_line(
         return Step::Refuse(2);
     };
     let store = p.store;
-    let k = steps::limit_broken(p, n, m, proof.len(), marks.len(), values.len());
+    let k = progress::limit_broken(p, n, m, proof.len(), marks.len(), values.len());
     if k != 0 {
         return Step::Refuse(k);
     }

@@ -4,15 +4,15 @@ ghost use mathlib.Core.Bool.{false};
 ghost use Rattle.lists.specs.Lists.{isList};
 ghost use Rattle.rules.specs.Forms.{clauseForm, deletion};
 ghost use Rattle.tables.specs.Tables.{Tables};
-ghost use Rattle.steps.specs.Shown.{Work};
+ghost use Rattle.progress.specs.Shown.{Work};
 ghost use Rattle.steps.specs.Judges.{among, beside};
-ghost use Rattle.redundancy.specs.Deletions.{Listed};
+ghost use Rattle.deletion.specs.Deletions.{Listed};
 ghost use Rattle.ferat.specs.declared.deletion_lines.LineList.{LineList};
 ghost use Rattle.ferat.specs.Lines.{Line, ListedBy};
 use lines::Literal;
 use lists::Clause;
-use steps::Progress;
-use steps::Step;
+use progress::Progress;
+use progress::Step;
 use trail::Falses;
 use trail::Trail;
 
@@ -37,7 +37,7 @@ fn list_line(line: &[u8], at: usize, falses: &mut Falses, trail: &mut Trail) -> 
         if x == 0 {
             return LineList::All(n);
         }
-        n = redundancy::deletion::list_literal(falses, trail, n, x % 65536);
+        n = deletion::list_literal(falses, trail, n, x % 65536);
         i = e;
     }
 }

@@ -2,13 +2,13 @@
 ghost use mathlib.Core.Path.{_≡_};
 ghost use Rattle.rules.specs.Forms.{hintsForm};
 ghost use Rattle.tables.specs.Tables.{Tables};
-ghost use Rattle.steps.specs.Shown.{Work};
+ghost use Rattle.progress.specs.Shown.{Work};
 ghost use Rattle.ferat.specs.Lines.{Line, hintedIn, withProof};
 use lists::Clause;
 use lists::Ending;
-use steps::Hinted;
-use steps::Progress;
-use steps::Step;
+use progress::Hinted;
+use progress::Progress;
+use progress::Step;
 
 // The progress after n hints, which the store stands above.
 fn with_hints(p: Progress, n: usize) -> Progress
@@ -42,7 +42,7 @@ pub fn hints_line(line: &[u8], at: usize, p: Progress, proof: &mut [i32]) -> Ste
     if s != 0 {
         return Step::Refuse(2);
     }
-    if steps::before_hints(p) {
+    if progress::before_hints(p) {
         if p.formula.c < m {
             return Step::Refuse(3);
         }

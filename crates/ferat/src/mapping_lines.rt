@@ -2,13 +2,13 @@
 ghost use mathlib.Core.Path.{_≡_};
 ghost use Rattle.rules.specs.Forms.{mappingForm};
 ghost use Rattle.tables.specs.Tables.{Tables};
-ghost use Rattle.steps.specs.Shown.{Work};
+ghost use Rattle.progress.specs.Shown.{Work};
 ghost use Rattle.ferat.specs.Lines.{Line, mappedIn, withMap, withNoted};
+use mapped::Noted;
 use mapping::Answer;
 use mapping::Mapped;
-use mapping::Noted;
-use steps::Progress;
-use steps::Step;
+use progress::Progress;
+use progress::Step;
 
 // The progress after a mapping line.
 fn with_mapping(p: Progress, mapped: Mapped) -> Progress
@@ -43,7 +43,7 @@ pub fn mapping_line(
         (withMap t (prefix .entry) (map .entry) (values .entry)) (withNoted w (noted .entry)) r
         (withMap t (prefix .entry) (map .exit) (values .exit)) (withNoted w (noted .exit))) ⌝ }
 {
-    let open = steps::before_hints(p);
+    let open = progress::before_hints(p);
     let state = p.mapped;
     match mapping::mapping_line(
         line,

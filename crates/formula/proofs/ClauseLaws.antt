@@ -30,7 +30,7 @@ use Rattle.lists.proofs.StoreLaws.{Stored, ending-good, list-in-table, flat-sno
 use Rattle.formula.specs.declared.Reading.{Reading}
 use Rattle.formula.specs.declared.State.{State}
 use Rattle.formula.specs.declared.Outcome.{Outcome}
-use Rattle.formula.specs.Tables.{isBound}
+use Rattle.prefix.specs.Prefix.{isBound}
 use Rattle.formula.specs.Holds.{Holds, Sized, proper}
 use Rattle.formula.specs.Judged.{byForm, clauseJudge, LineRead}
 use Rattle.formula.proofs.Steps.{refused, accepted, read-within, untouched, fits-formula, need-more, all-snoc}

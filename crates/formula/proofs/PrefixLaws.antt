@@ -20,7 +20,8 @@ use Rattle.rules.proofs.CodesLaw.{var-code}
 use Rattle.lists.specs.Stores.{written, inRange}
 use Rattle.prefix.specs.Prefix.{entry, kindOf, markFrom, Shows}
 use Rattle.formula.specs.declared.Marked.{Marked}
-use Rattle.formula.specs.Tables.{isBound, Pass, pass}
+use Rattle.prefix.specs.Prefix.{isBound}
+use Rattle.formula.specs.Tables.{Pass, pass}
 use Rattle.formula.specs.Judged.{quantifier}
 
 -- each in turn is not among those before

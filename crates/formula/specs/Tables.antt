@@ -1,6 +1,6 @@
 -- What is asked of the prefix table, and what a prefix line stores there. Assumes nothing.
 use mathlib.Core.Path.{_≡_}
-use mathlib.Core.Bool.{Bool, true, false, not, cond}
+use mathlib.Core.Bool.{true, false, cond}
 use mathlib.Core.List.{List, [], _∷_}
 use Prim.Native.Nat.{ℕ, _+_, _*_, _-_, _/_, _≤_}
 use lib.Dec.{eqb}
@@ -8,12 +8,8 @@ use lib.ListN.{length, set}
 use lib.IntN.{ℤ, pos}
 use Rattle.lists.specs.Lists.{isList}
 use Rattle.lists.specs.Stores.{codesAt}
-use Rattle.prefix.specs.Prefix.{entry}
+use Rattle.prefix.specs.Prefix.{isBound}
 use Rattle.formula.specs.declared.Marked.{Marked}
-
--- the variable of a code is bound
-unfoldable pub isBound : List ℤ → ℕ → Bool
-isBound p x = not (eqb (entry p (x / 2)) 0)
 
 -- THE SECOND PASS OVER A PREFIX LINE, by the codes of its variables and its zero: its answer, and the table that it leaves.
 -- It stops where a variable is bound already, or where no zero ends the codes, for a token there is no literal; q is the quantifier's

@@ -1,14 +1,10 @@
 // The formula read into its two tables.
 ghost use mathlib.Core.Path.{_≡_};
 ghost use Prim.Native.Nat.{_+_, _≤_};
-ghost use lib.ListN.{length, replicate};
-ghost use Rattle.lines.specs.Lists.{all};
+ghost use lib.ListN.{length};
 ghost use Rattle.lines.specs.Scan.{headOf};
-ghost use Rattle.cells.specs.Cells.{listAt};
-ghost use Rattle.lists.specs.Stores.{puts};
-ghost use Rattle.prefix.specs.Prefix.{entry};
 ghost use Rattle.formula.specs.Kinds.{letterKind, kindOf, naturalAt};
-ghost use Rattle.formula.specs.Tables.{isBound, Marks};
+ghost use Rattle.formula.specs.Tables.{Marks};
 ghost use Rattle.formula.specs.Judged.{problemJudge, bindingJudge, clauseJudge, lineJudge, Able, ReadInPrefix, ReadInBoth};
 ghost use Rattle.formula.specs.Answers.{closeOf, Whole, Answered};
 use cells::wide;
@@ -45,41 +41,6 @@ enum Outcome {
     Refuse(u32),
 }
 
-// The word of a variable in the prefix table: 0 if it is not bound.
-fn word_of(prefix: &[i32], v: u32) -> u32
-    ensures { λ r. ⌜ r ≡ entry (now (prefix .entry)) v ⌝ }
-{
-    prefix::word(prefix, wide(v))
-}
-
-// Zeros in front, as far as the table goes.
-fn clear(t: &mut [i32], n: usize)
-    ensures { λ _. ⌜ now (t .exit) ≡ puts (now (t .entry)) 0 (replicate n 0) ⌝ }
-{
-    let mut i = 0;
-    while i < n {
-        cells::put(t, i, 0);
-        i += 1;
-    }
-}
-
-// Whether every variable of the clause that stands from a place on is bound.
-fn all_bound(prefix: &[i32], matrix: &[i32], from: usize) -> bool
-    ensures { λ r. ⌜ r ≡ all (isBound (now (prefix .entry))) (listAt (now (matrix .entry)) from) ⌝ }
-{
-    let mut i = from;
-    loop {
-        let x = cells::code(matrix, i);
-        if x == 0 {
-            return true;
-        }
-        if word_of(prefix, x / 2) == 0 {
-            return false;
-        }
-        i += 1;
-    }
-}
-
 // How many variables are bound after a prefix line, or that one of them was bound before, or that a token is no literal.
 enum Marked {
     Bad,
@@ -101,7 +62,7 @@ fn put_binding(line: &[u8], at: usize, q: u32, prefix: &mut [i32], bound: u32) -
         if x == 0 {
             return Marked::Done(k);
         }
-        if word_of(prefix, x / 2) != 0 {
+        if prefix::word_of(prefix, x / 2) != 0 {
             return Marked::Twice;
         }
         cells::put(prefix, wide(x / 2 - 1), 2 * k + q);
@@ -166,7 +127,7 @@ fn clause_line(line: &[u8], r: Reading, prefix: &[i32], matrix: &mut [i32]) -> O
     let Ending::Zero = lists::store_list(line, 0, matrix, used) else {
         return Outcome::Refuse(2);
     };
-    if !all_bound(prefix, matrix, used) {
+    if !prefix::all_bound(prefix, matrix, used) {
         return Outcome::Refuse(5);
     }
     if r.c <= r.clauses {
@@ -227,7 +188,7 @@ fn problem_line(line: &[u8], at: usize, prefix: &mut [i32]) -> Outcome
     if prefix.len() < n {
         return Outcome::Refuse(15);
     }
-    clear(prefix, n);
+    prefix::clear(prefix, n);
     Outcome::Next(State::Within(Reading {
         v,
         c,

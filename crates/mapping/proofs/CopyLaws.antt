@@ -21,12 +21,12 @@ use Rattle.rules.specs.Codes.{codeOf}
 use Rattle.rules.specs.Expansion.{Copy, copies, copyVars, isMapped, standsFor, annotation}
 use Rattle.rules.proofs.Kit.{and-l, and-r, by-yes, eqb-self, In}
 use Rattle.rules.proofs.Distinct.{isIn-in, distinct-tail, distinct-new, append-distinct}
-use Rattle.mapping.specs.declared.numbers.Item.{Item}
-use Rattle.mapping.specs.Numbers.{numbersAt, endOf, ItemAt}
+use Rattle.mapped.specs.declared.numbers.Item.{Item}
+use Rattle.mapped.specs.Numbers.{numbersAt, endOf, ItemAt}
 use Rattle.mapping.specs.Stores.{Written, written, copying}
 use Rattle.mapping.specs.Shown.{CopyShown}
-use Rattle.mapping.proofs.NumberLaws.{list-ends}
-use Rattle.mapping.proofs.MarkLaws.{mapped-in, mapped-append}
+use Rattle.mapped.proofs.NumberLaws.{list-ends}
+use Rattle.mapped.proofs.MarkLaws.{mapped-in, mapped-append}
 
 -- A TURN of storing the copies: what is left to store, stored in the tables as they are, is the whole
 pub record Copying (bs : List ℕ) (at from note first : ℕ) (t₀ u₀ t u : List ℤ) (i j k : ℕ) : Type 0 where

@@ -33,14 +33,14 @@ use Rattle.rules.proofs.ProperLaw.{proper-mapping}
 use Rattle.mapping.specs.declared.Mapped.{Mapped}
 use Rattle.mapping.specs.declared.Answer.{Answer}
 use Rattle.mapping.specs.declared.Answer.the-variants.{Next, Refuse}
-use Rattle.mapping.specs.Numbers.{numbersAt, endOf, ruled}
-use Rattle.mapping.specs.Marks.{marking, noting, Notes}
-use Rattle.mapping.specs.Annotation.{annotates}
+use Rattle.mapped.specs.Numbers.{numbersAt, endOf, ruled}
+use Rattle.mapped.specs.Marks.{marking, noting, Notes}
+use Rattle.annotation.specs.Annotation.{annotates}
 use Rattle.mapping.specs.Stores.{Written, written, copying}
 use Rattle.mapping.specs.Shown.{MappingShown}
 use Rattle.mapping.specs.MappingLine.{ranged, roomy, early, Lent, after, refusal, Before, After, Unwritten, Leads, MappingLine}
-use Rattle.mapping.proofs.NumberLaws.{list-ends, ruled-kept, ruled-broken}
-use Rattle.mapping.proofs.MarkLaws.{noted-start}
+use Rattle.mapped.proofs.NumberLaws.{list-ends, ruled-kept, ruled-broken}
+use Rattle.mapped.proofs.MarkLaws.{noted-start}
 use Rattle.mapping.proofs.CopyLaws.{copying-kept, Taken, taken-later, apart-distinct, taken-copies}
 use Rattle.mapping.proofs.RuleLaws.{ps-long, es-long, ls-long, lists-long, range-rule, few, pass-l, ps-are, es-are, largest-is, ps-range, fresh-are, rules-are, noted-are}
 

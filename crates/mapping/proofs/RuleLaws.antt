@@ -27,14 +27,14 @@ use Rattle.rules.specs.Step.{_unless_, _then_}
 use Rattle.rules.specs.FormulaLines.{upToV}
 use Rattle.rules.specs.Expansion.{Copy, copies, copyVars, mappingRules}
 use Rattle.rules.proofs.Kit.{and-l, and-r}
-use Rattle.mapping.specs.Numbers.{numbersAt}
-use Rattle.mapping.specs.Marks.{Marking, marking, noting}
-use Rattle.mapping.specs.Annotation.{annotates}
-use Rattle.mapping.specs.Shown.{NotedShown}
+use Rattle.mapped.specs.Numbers.{numbersAt}
+use Rattle.mapped.specs.Marks.{Marking, marking, noting}
+use Rattle.annotation.specs.Annotation.{annotates}
+use Rattle.mapped.specs.Marks.{NotedShown}
 use Rattle.mapping.specs.MappingLine.{ranged}
-use Rattle.mapping.proofs.NumberLaws.{numbers-listed}
-use Rattle.mapping.proofs.MarkLaws.{fresh-rule, noted-after}
-use Rattle.mapping.proofs.AnnotationLaws.{annotation-rule}
+use Rattle.mapped.proofs.NumberLaws.{numbers-listed}
+use Rattle.mapped.proofs.MarkLaws.{fresh-rule, noted-after}
+use Rattle.annotation.proofs.AnnotationLaws.{annotation-rule}
 
 -- WHAT THE FIRST PASS TELLS
 pub mapping-told : (bs : List ℕ) (at : ℕ) {r : Mapping} {k m c e l i h : ℕ} → r ≡ mappingAt bs at → r ≡ Mapping.Lists k m c e l i h → Lists bs at k m c e l i h

@@ -1,23 +1,15 @@
-// Mapping lines, `x P1..Pk 0 E1..Ek 0 L1..Lm 0`: the rules 7 and 8, storing, and the whole line.
-mod annotation;
-mod marks;
-mod numbers;
+// Mapping lines, `x P1..Pk 0 E1..Ek 0 L1..Lm 0`: storing, and the whole line.
 mod stores;
 
 ghost use mathlib.Core.Path.{_≡_};
 ghost use Rattle.mapping.specs.MappingLine.{ranged, roomy, early, lent, MappingLine};
-pub use annotation::annotates;
+use annotation::annotates;
 use cells::larger;
 use lists::Mapping;
-pub use marks::fresh;
-pub use marks::is_mapped;
+use mapped::COPIES;
+use mapped::Noted;
+use mapped::fresh;
 pub use stores::store;
-
-// The highest copy.
-pub const COPIES: usize = 16384;
-
-// Which copies are mapped: place p holds 1 if copy p is, else 0.
-pub type Noted = [u8; 16385];
 
 // Places of the map table below 2^31 are stored as they are.
 pub const PLACES: usize = 2147483648;

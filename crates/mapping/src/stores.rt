@@ -6,12 +6,12 @@ ghost use lib.ListN.{length};
 ghost use mathlib.Core.Bool.{true};
 ghost use Rattle.lists.specs.Lists.{isList};
 ghost use Rattle.lists.specs.Stores.{codesAt, puts};
-ghost use Rattle.mapping.specs.Numbers.{numbersAt};
+ghost use Rattle.mapped.specs.Numbers.{numbersAt};
 ghost use Rattle.mapping.specs.Stores.{copying, written};
 use crate::PLACES;
-use crate::numbers::Item;
-use crate::numbers::item_at;
 use lists::Ending;
+use mapped::numbers::Item;
+use mapped::numbers::item_at;
 
 // The copies at `at`, with their existentials at `from`, from place `first` of the map on. The refusal: 2 at a token that is no literal.
 fn put_copies(

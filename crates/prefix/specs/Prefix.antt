@@ -1,9 +1,9 @@
 -- The prefix table: place v - 1 has the word of variable v, 2k + 1 for the k-th variable of the prefix (from 0) if it is universal,
 -- 2k + 2 if it is existential, and 0 if it is not bound. Assumes nothing.
 use mathlib.Core.Path.{_≡_}
-use mathlib.Core.Bool.{Bool, true, false, cond}
+use mathlib.Core.Bool.{Bool, true, false, not, cond}
 use mathlib.Core.List.{List, [], _∷_}
-use Prim.Native.Nat.{ℕ, _+_, _*_, _-_, _%_, _<_, _≤_}
+use Prim.Native.Nat.{ℕ, _+_, _*_, _-_, _/_, _%_, _<_, _≤_}
 use lib.IntN.{ℤ}
 use lib.Dec.{eqb, ltb}
 use Rattle.cells.specs.Cells.{cellAt}
@@ -45,3 +45,7 @@ pub record Told (p : List ℤ) (n : ℕ) (f : Formula) : Type 0 where
   pub shows : Shows p n (f .prefix)
   pub once : distinct (bound f) ≡ true
   pub ranged : (v : ℕ) → isIn (bound f) v ≡ true → (0 < v) × (v ≤ n)
+
+-- the variable of a code is bound
+unfoldable pub isBound : List ℤ → ℕ → Bool
+isBound p x = not (eqb (entry p (x / 2)) 0)

@@ -14,7 +14,7 @@ use Rattle.rules.specs.Codes.{litOf, flip}
 use Rattle.rules.specs.Propagation.{rup, less, rat}
 use Rattle.rules.proofs.Kit.{clear, by-yes, all-in, in-all, keep-in, in-keep}
 use Rattle.rules.proofs.CodesLaw.{lit-flip}
-use Rattle.redundancy.specs.declared.addition.Addition.the-variants.{Accepted, Refused}
+use Rattle.redundancy.specs.declared.Addition.the-variants.{Accepted, Refused}
 use Rattle.propagation.specs.declared.Visit.{Visit}
 use Rattle.propagation.specs.declared.Visit.the-variants as visit
 use Rattle.propagation.specs.declared.Propagated.{Propagated}
@@ -28,7 +28,8 @@ use Rattle.clauses.proofs.StandingLaws.{standing-in, standing-out}
 use Rattle.propagation.proofs.AnswerLaws.{visited-clash, visited-moved}
 use Rattle.propagation.proofs.HeldLaws.{held-moved, held-kept}
 use Rattle.redundancy.proofs.DenyLaws.{denies-part, less-nil, refuted-clash, refuted-good}
-use Rattle.redundancy.proofs.BridgeLaws.{in-map, map-in, map-append, holds-lit, less-lits, rup-true, rup-false}
+use Rattle.clauses.proofs.MemberLaws.{in-map, map-in, holds-lit}
+use Rattle.redundancy.proofs.BridgeLaws.{map-append, less-lits, rup-true, rup-false}
 
 -- A CANDIDATE d, on top of the trail of the failed RUP
 module _ (S : List (List ℕ)) (c : List ℕ) where

@@ -1,43 +1,26 @@
 -- From codes to the literals of the rules. Assumes nothing.
-use mathlib.Core.Path.{_≡_, refl, sym, _∙_, ap, ap₂, subst}
+use mathlib.Core.Path.{_≡_, refl, sym, _∙_, ap, subst}
 use mathlib.Core.Logic.{inl, inr}
-use mathlib.Core.Bool.{Bool, true, false, not, _||_}
-use mathlib.Core.List.{List, [], _∷_, _++_, map, List·Memᴰ·head, List·Memᴰ·tail, List·Memᴰ·not-nil, List·Memᴰ·cases-cons}
+use mathlib.Core.Bool.{Bool, true, false, not}
+use mathlib.Core.List.{List, [], _∷_, _++_, map}
 use Prim.Native.Nat.{ℕ}
 use lib.Dec.{eqb}
-use Rattle.rules.specs.Basics.{isIn}
-use Rattle.rules.specs.Literals.{Lit, Lits, negate, same, holds}
+use Rattle.rules.specs.Literals.{Lit, Lits, negate}
 use Rattle.rules.specs.Codes.{codeOf, litOf, flip}
 use Rattle.rules.specs.Propagation.{isConflict, rup, less}
 use Rattle.rules.proofs.Kit.{either}
-use Rattle.rules.proofs.CodesLaw.{code-lit, code-negate, lit-flip, same-code}
+use Rattle.rules.proofs.CodesLaw.{code-lit, code-negate, lit-flip}
 use Rattle.rules.proofs.Good as rules
 use Rattle.clauses.specs.Standing.{literals}
+use Rattle.clauses.proofs.MemberLaws.{in-map, map-in, same-lit}
 use Rattle.propagation.specs.Answers.{In, Good, Denies}
 use Rattle.redundancy.specs.Additions.{rupOf, lessCode}
 
--- MEMBERS OF A MAPPED LIST
+-- A MAPPED LIST
 module _ {A B : Type 0} (g : A → B) where
-  pub in-map : {x : A} {xs : List A} → In x xs → In (g x) (map g xs)
-  in-map (List·Memᴰ·head e) = List·Memᴰ·head (ap g e)
-  in-map (List·Memᴰ·tail m) = List·Memᴰ·tail (in-map m)
-
-  pub map-in : (y : B) (xs : List A) → In y (map g xs) → (x : A) × In x xs × (y ≡ g x)
-  map-in y [] m = absurd (List·Memᴰ·not-nil m)
-  map-in y (x ∷ xs) m = either {D = (z : A) × In z (x ∷ xs) × (y ≡ g z)} (λ e. (x, List·Memᴰ·head refl, e))
-      (λ k. let s = map-in y xs k in (s .0, List·Memᴰ·tail (s .1), s .2)) (List·Memᴰ·cases-cons m)
-
   pub map-append : (xs ys : List A) → map g (xs ++ ys) ≡ map g xs ++ map g ys
   map-append [] ys = refl
   map-append (x ∷ xs) ys = ap (λ zs. g x ∷ zs) (map-append xs ys)
-
--- TESTS
-pub same-lit : (m x : ℕ) → same (litOf m) (litOf x) ≡ eqb m x
-same-lit m x = same-code (litOf m) (litOf x) ∙ ap₂ eqb (code-lit m) (code-lit x)
-
-pub holds-lit : (d : List ℕ) (x : ℕ) → holds (map litOf d) (litOf x) ≡ isIn d x
-holds-lit [] x = refl
-holds-lit (m ∷ d) x = ap₂ (λ a b. a || b) (same-lit x m) (holds-lit d x)
 
 keep-step : (b : Bool) (m : ℕ) (d : List ℕ) (e : Lits) → map litOf d ≡ e
     → map litOf (elim b as (λ _. List ℕ) [ true ↦ m ∷ d | false ↦ d ]) ≡ elim b as (λ _. Lits) [ true ↦ litOf m ∷ e | false ↦ e ]

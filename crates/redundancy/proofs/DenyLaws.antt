@@ -1,6 +1,6 @@
 -- Laws of a clause whose literals are made false. Assumes nothing.
 use mathlib.Core.Path.{_≡_, refl, sym, _∙_, ap, subst}
-use mathlib.Core.Bool.{Bool, true, false, not, _||_}
+use mathlib.Core.Bool.{Bool, true, false, not}
 use mathlib.Core.List.{List, [], _∷_, _++_, append-assoc, append-nil, List·Memᴰ·head, List·Memᴰ·tail, List·Memᴰ·not-nil, List·Memᴰ·append-cases, List·Memᴰ·eq-of-singleton, Memᴰ·append-left, Memᴰ·append-right}
 use Prim.Native.Nat.{ℕ, _<_}
 use lib.IntN.{ℤ}
@@ -8,7 +8,6 @@ use borrow.Author.Tests.{eq-eqb, ne-eqb}
 use Rattle.clauses.specs.declared.Cursor.{Cursor}
 use Rattle.clauses.specs.Standing.{literalsFrom}
 use Rattle.clauses.proofs.CursorLaws.{literal-some}
-use Rattle.rules.specs.Basics.{isIn}
 use Rattle.rules.specs.Codes.{flip}
 use Rattle.rules.proofs.Kit.{either}
 use Rattle.propagation.specs.declared.Visit.{Visit}
@@ -207,15 +206,3 @@ module _ {S : List (List ℕ)} (c : List ℕ) {f₀ t₀ : List ℕ} {n₀ : ℕ
   pub refuted-good : {r : Propagated} {k : ℕ} → r ≡ propagated.Stable k → Refuted S c f₀ t₀ n₀ f t r
       → Moved (Both S c) f₀ t₀ n₀ f t k × Good S (truth f) × Denies (truth f) c
   refuted-good e v = unfold Refuted in subst (Refuted S c f₀ t₀ n₀ f t) e v
-
--- MEMBERSHIP, where a clause is read
-module _ (l : ℕ) (rest : List ℕ) where
-  pub in-end : rest ≡ [] → isIn rest l ≡ false
-  in-end e = ap (λ (x : List ℕ). isIn x l) e
-
-  module _ (m : ℕ) (rest′ : List ℕ) (e : rest ≡ m ∷ rest′) where
-    pub in-here : l ≡ m → isIn rest l ≡ true
-    in-here q = ap (λ (x : List ℕ). isIn x l) e ∙ ap (λ b. b || isIn rest′ l) (eq-eqb l m q)
-
-    pub in-later : (l ≡ m → ⊥) → isIn rest l ≡ isIn rest′ l
-    in-later n = ap (λ (x : List ℕ). isIn x l) e ∙ ap (λ b. b || isIn rest′ l) (ne-eqb l m n)

@@ -2,4 +2,3 @@
 pub mod DenyLaws
 pub mod BridgeLaws
 pub mod AdditionLaws
-pub mod DeletionLaws

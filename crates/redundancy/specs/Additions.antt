@@ -15,8 +15,8 @@ use Rattle.propagation.specs.declared.Visit.{Visit}
 use Rattle.propagation.specs.declared.Visit.the-variants as visit
 use Rattle.propagation.specs.declared.Propagated.{Propagated}
 use Rattle.propagation.specs.declared.Propagated.the-variants as propagated
-use Rattle.redundancy.specs.declared.addition.Addition.{Addition}
-use Rattle.redundancy.specs.declared.addition.Addition.the-variants.{Accepted, Refused}
+use Rattle.redundancy.specs.declared.Addition.{Addition}
+use Rattle.redundancy.specs.declared.Addition.the-variants.{Accepted, Refused}
 use Rattle.clauses.specs.declared.Cursor.{Cursor}
 use Rattle.clauses.specs.Standing.{literals, literalsFrom}
 use Rattle.trail.specs.Trail.{truth, Ready}

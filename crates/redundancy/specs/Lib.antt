@@ -1,3 +1,2 @@
 -- What the contracts of crate redundancy say.
 pub mod Additions
-pub mod Deletions

@@ -21,18 +21,18 @@ use Rattle.clauses.specs.declared.Cursor.{Cursor}
 use Rattle.clauses.specs.Standing.{standing, placesOf, literalsFrom, pendingFrom, pending}
 use Rattle.propagation.specs.declared.Units.{Units}
 use Rattle.propagation.specs.Answers.{Held}
-use Rattle.redundancy.specs.declared.addition.Addition.{Addition}
-use Rattle.redundancy.specs.declared.addition.Addition.the-variants.{Accepted, Refused}
+use Rattle.redundancy.specs.declared.Addition.{Addition}
+use Rattle.redundancy.specs.declared.Addition.the-variants.{Accepted, Refused}
 use Rattle.redundancy.specs.Additions.{accepts, Decided}
-use Rattle.steps.specs.declared.Counts.{Counts}
-use Rattle.steps.specs.declared.Progress.{Progress}
-use Rattle.steps.specs.declared.Step.the-variants.{Next, Refuse}
-use Rattle.steps.specs.Order.{hintLeft}
-use Rattle.steps.specs.Shown.{Work, work, clausesOf, Shown, Light, Stepped}
+use Rattle.progress.specs.declared.Counts.{Counts}
+use Rattle.progress.specs.declared.Progress.{Progress}
+use Rattle.progress.specs.declared.Step.the-variants.{Next, Refuse}
+use Rattle.progress.specs.Order.{hintLeft}
+use Rattle.progress.specs.Shown.{Work, work, clausesOf, Shown, Light, Stepped}
 use Rattle.steps.specs.Judges.{kindJudge, Pending, Judges}
 use Rattle.steps.specs.Stands.{oneAddition, Standable, Stands}
 use Rattle.steps.proofs.JudgeLaws.{judge-kind, judge-next, refused-in, accepted-in}
-use Rattle.steps.proofs.OrderLaws.{hint-left}
+use Rattle.progress.proofs.OrderLaws.{hint-left}
 use Rattle.steps.proofs.StandLaws.{additions-add, clause-needs, more-is, small-then, stood-kept, stood-shown, stood-weight}
 
 -- what an addition's answer says

@@ -25,16 +25,16 @@ use Rattle.tables.proofs.Rooms.{places-same}
 use Rattle.clauses.specs.Standing.{standing, placesOf, marksNeed}
 use Rattle.trail.specs.Trail.{Ready}
 use Rattle.propagation.proofs.MoveLaws.{held-empty}
-use Rattle.redundancy.specs.Deletions.{Listed, Deleted}
-use Rattle.redundancy.proofs.DeletionLaws.{deleted-as}
-use Rattle.steps.specs.declared.Progress.{Progress}
-use Rattle.steps.specs.declared.Step.the-variants.{Next, Refuse}
-use Rattle.steps.specs.Order.{hintLeft, more}
-use Rattle.steps.specs.Shown.{Work, work, needsOf, Shown, weight, Light, Stepped}
+use Rattle.deletion.specs.Deletions.{Listed, Deleted}
+use Rattle.deletion.proofs.DeletionLaws.{deleted-as}
+use Rattle.progress.specs.declared.Progress.{Progress}
+use Rattle.progress.specs.declared.Step.the-variants.{Next, Refuse}
+use Rattle.progress.specs.Order.{hintLeft, more}
+use Rattle.progress.specs.Shown.{Work, work, needsOf, Shown, weight, Light, Stepped}
 use Rattle.steps.specs.Judges.{kindJudge, Listing, Deletes}
 use Rattle.steps.specs.Stands.{deletedIn}
 use Rattle.steps.proofs.JudgeLaws.{judge-kind, judge-next, refused-in, accepted-in}
-use Rattle.steps.proofs.OrderLaws.{hint-left}
+use Rattle.progress.proofs.OrderLaws.{hint-left}
 use Rattle.steps.proofs.StandLaws.{more-is}
 
 module _ {p : Progress} {t : Tables} {w : Work} {f : Formula} {s : State} (sh : Shown p t w f s) (c : Lits) where

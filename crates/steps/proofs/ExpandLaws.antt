@@ -25,26 +25,27 @@ use Rattle.rules.specs.CertificateLines.{State, state, needing, hintThere, cand
 use Rattle.rules.proofs.Kit.{and-l, and-r}
 use Rattle.tables.specs.Tables.{Tables, tables, lengthsOf, KeptAll}
 use Rattle.tables.proofs.Frames.{all-self}
-use Rattle.mapping.specs.Marks.{isNoted}
-use Rattle.mapping.proofs.MarkLaws.{mapped-rule}
+use Rattle.mapped.specs.Marks.{isNoted}
+use Rattle.mapped.proofs.MarkLaws.{mapped-rule}
 use Rattle.mapping.proofs.LineLaws.{shown-copy}
-use Rattle.expansion.specs.Codes.{standsOf, annotationAt, annotationOf, expandsNamed, expandsAny}
+use Rattle.copies.specs.Copies.{standsOf, annotationAt, annotationOf}
+use Rattle.expansion.specs.Codes.{expandsNamed, expandsAny}
 use Rattle.expansion.proofs.ClauseLaws.{CopiesTold, named-tested, any-tested}
 use Rattle.clauses.specs.declared.Cursor.{Cursor}
 use Rattle.clauses.specs.Standing.{standing, literalsFrom, pendingFrom, pending, writtenAt, proofNeed}
 use Rattle.clauses.proofs.CursorLaws.{written-there}
-use Rattle.steps.specs.declared.Counts.{Counts}
-use Rattle.steps.specs.declared.Progress.{Progress}
-use Rattle.steps.specs.declared.Step.the-variants.{Next, Refuse}
-use Rattle.steps.specs.Order.{hintMissing}
-use Rattle.steps.specs.Shown.{Work, work, HintsShown, Shown, Light, Stepped}
+use Rattle.progress.specs.declared.Counts.{Counts}
+use Rattle.progress.specs.declared.Progress.{Progress}
+use Rattle.progress.specs.declared.Step.the-variants.{Next, Refuse}
+use Rattle.progress.specs.Order.{hintMissing}
+use Rattle.progress.specs.Shown.{Work, work, HintsShown, Shown, Light, Stepped}
 use Rattle.steps.specs.Judges.{kindJudge, Pending, Judges}
 use Rattle.steps.specs.Stands.{oneExpansion, Standable, Stands}
 use Rattle.steps.specs.Expands.{allMapped, hintAt, fitsAt, ruleBroken}
 use Rattle.steps.proofs.JudgeLaws.{judge-kind, judge-next, refused-in, accepted-in}
-use Rattle.steps.proofs.OrderLaws.{yes, no, hint-missing}
+use Rattle.progress.proofs.OrderLaws.{yes, no, hint-missing}
 use Rattle.steps.proofs.StandLaws.{expansions-add, clause-needs, more-is, small-then, stood-kept, stood-shown, stood-weight}
-use Rattle.steps.proofs.HintLaws.{hint-read}
+use Rattle.progress.proofs.HintLaws.{hint-read}
 
 -- WHAT THE CODE TESTS
 module _ (p : Progress) (t : Tables) (starts : List ℕ) where

@@ -10,9 +10,9 @@ use Rattle.rules.specs.Step.{next, refuse, _unless_, _then_, refuseIn}
 use Rattle.rules.specs.Step as rules
 use Rattle.rules.specs.CertificateLines.{State, needing, inSequence, inRange, kindRules, accept, judge}
 use Rattle.tables.specs.Tables.{Tables, KeptAll}
-use Rattle.steps.specs.declared.Progress.{Progress}
-use Rattle.steps.specs.declared.Step.the-variants.{Next, Refuse}
-use Rattle.steps.specs.Shown.{Work, Stepped}
+use Rattle.progress.specs.declared.Progress.{Progress}
+use Rattle.progress.specs.declared.Step.the-variants.{Next, Refuse}
+use Rattle.progress.specs.Shown.{Work, Stepped}
 use Rattle.steps.specs.Judges.{kindJudge}
 
 -- THE JUDGE, by the first rule that is broken

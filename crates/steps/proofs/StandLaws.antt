@@ -23,10 +23,10 @@ use Rattle.clauses.proofs.StoreLaws.{proof-grown, marks-grown, place-new}
 use Rattle.propagation.proofs.HeldLaws.{held-stood}
 use Rattle.propagation.specs.declared.Units.{Units}
 use Rattle.propagation.specs.Answers.{Held}
-use Rattle.steps.specs.declared.Counts.{Counts}
-use Rattle.steps.specs.declared.Hinted.{Hinted}
-use Rattle.steps.specs.declared.Progress.{Progress}
-use Rattle.steps.specs.Shown.{Work, work, HintsShown, needsOf, Shown, weight, Light}
+use Rattle.progress.specs.declared.Counts.{Counts}
+use Rattle.progress.specs.declared.Hinted.{Hinted}
+use Rattle.progress.specs.declared.Progress.{Progress}
+use Rattle.progress.specs.Shown.{Work, work, HintsShown, needsOf, Shown, weight, Light}
 use Rattle.steps.specs.Judges.{Pending}
 use Rattle.steps.specs.Stands.{needsWith, stoodIn, Standable, Stands}
 

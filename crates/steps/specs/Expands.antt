@@ -6,12 +6,12 @@ use lib.IntN.{ℤ}
 use Rattle.lines.specs.Lists.{all}
 use Rattle.cells.specs.Cells.{codeAt}
 use Rattle.tables.specs.Tables.{Tables}
-use Rattle.mapping.specs.Marks.{isNoted}
+use Rattle.mapped.specs.Marks.{isNoted}
 use Rattle.expansion.specs.Codes.{expandsNamed, expandsAny}
 use Rattle.clauses.specs.Standing.{pending, writtenAt}
-use Rattle.steps.specs.declared.Progress.{Progress}
-use Rattle.steps.specs.Order.{hintMissing}
-use Rattle.steps.specs.Shown.{Work}
+use Rattle.progress.specs.declared.Progress.{Progress}
+use Rattle.progress.specs.Order.{hintMissing}
+use Rattle.progress.specs.Shown.{Work}
 
 -- every copy of these codes is mapped
 unfoldable pub allMapped : List ℕ → List ℕ → Bool

@@ -1,6 +1,5 @@
 -- Judging what is stored. Assumes nothing.
 use mathlib.Core.Path.{_≡_}
-use mathlib.Core.Bool.{cond}
 use mathlib.Core.List.{List, map}
 use Prim.Native.Nat.{ℕ, _<_, _≤_, max}
 use lib.ListN.{length, take}
@@ -15,12 +14,11 @@ use Rattle.rules.specs.Step as rules
 use Rattle.rules.specs.Step.{refuseIn}
 use Rattle.rules.specs.CertificateLines.{State, needing, kindRules, accept}
 use Rattle.tables.specs.Tables.{Tables, tables}
-use Rattle.clauses.specs.Standing.{standing, placesOf, pending, grown, proofNeed, marksNeed, hasEmpty}
-use Rattle.redundancy.specs.Deletions.{Listed}
-use Rattle.steps.specs.declared.Progress.{Progress}
-use Rattle.steps.specs.declared.Step.{Step}
-use Rattle.steps.specs.Order.{hintLeft}
-use Rattle.steps.specs.Shown.{Work, work, Shown, Light, Stepped}
+use Rattle.clauses.specs.Standing.{pending, grown, proofNeed, marksNeed}
+use Rattle.deletion.specs.Deletions.{Listed}
+use Rattle.progress.specs.declared.Progress.{Progress}
+use Rattle.progress.specs.declared.Step.{Step}
+use Rattle.progress.specs.Shown.{Work, work, Shown, Light, Stepped}
 
 -- WHAT THE RULES SAY OF A LINE once 2, 3 and 15 are out
 abbrev pub kindJudge : Formula → State → CertificateLine → rules.Step State
@@ -58,7 +56,3 @@ pub record Deletes (p : Progress) (n : ℕ) (t : Tables) (w : Work) (r : Step) (
   pub steps : (c : Lits) (k : ℕ) (f : Formula) (s : State) (falses trail : List ℕ) → Listing c (w .falses) (w .trail) n
       → Shown p t (work (w .starts) (w .noted) falses trail) f s → Light p k → 0 < k
       → Stepped f p k t (kindJudge f s (deletion c)) r u v
-
--- AT THE END: the first of the rules 10 and 14 that is broken; 0 if none
-unfoldable pub endBroken : Progress → List ℤ → List ℤ → ℕ
-endBroken p proof marks = cond (hintLeft p) 10 (cond (hasEmpty (standing proof marks (placesOf (p .store)))) 0 14)

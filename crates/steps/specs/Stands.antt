@@ -8,9 +8,9 @@ use Rattle.rules.specs.Needs.{Places, places}
 use Rattle.clauses.specs.Standing.{standing, placesOf, pending, proofNeed, marksNeed, grown, Filled, Stood}
 use Rattle.propagation.specs.declared.Units.{Units}
 use Rattle.propagation.specs.Answers.{Held}
-use Rattle.steps.specs.declared.Counts.{Counts}
-use Rattle.steps.specs.declared.Progress.{Progress}
-use Rattle.steps.specs.Order.{more}
+use Rattle.progress.specs.declared.Counts.{Counts}
+use Rattle.progress.specs.declared.Progress.{Progress}
+use Rattle.progress.specs.Order.{more}
 
 -- one line more
 abbrev pub oneExpansion : Counts → Counts

@@ -4,17 +4,17 @@ ghost use Rattle.rules.specs.Forms.{addition};
 ghost use Rattle.steps.specs.Judges.{Judges, among, beside};
 ghost use Rattle.steps.specs.Stands.{Standable, Stands, oneAddition};
 ghost use Rattle.tables.specs.Tables.{Tables};
-ghost use Rattle.steps.specs.Shown.{Work};
-use crate::Counts;
-use crate::Progress;
-use crate::Step;
-use crate::order::hint_left;
-use crate::order::one_more;
+ghost use Rattle.progress.specs.Shown.{Work};
 use cells::larger;
 use mapping::Mapped;
+use progress::Counts;
+use progress::Progress;
+use progress::Step;
+use progress::hint_left;
+use progress::one_more;
 use propagation::Units;
 use propagation::Watches;
-use redundancy::addition::Addition;
+use redundancy::Addition;
 use trail::Falses;
 use trail::Trail;
 
@@ -87,7 +87,7 @@ pub fn add(
     let store = p.store;
     let count = clauses::places(store);
     let c = clauses::pending(store);
-    match redundancy::addition::add(proof, marks, count, falses, trail, p.units, watches, c) {
+    match redundancy::add(proof, marks, count, falses, trail, p.units, watches, c) {
         Addition::Refused => Step::Refuse(12),
         Addition::Accepted(units) => Step::Next(stand(
             p,

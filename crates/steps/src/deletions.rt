@@ -1,14 +1,14 @@
 // The judge of a deletion.
 ghost use mathlib.Core.Path.{_≡_};
 ghost use Rattle.tables.specs.Tables.{Tables};
-ghost use Rattle.steps.specs.Shown.{Work};
+ghost use Rattle.progress.specs.Shown.{Work};
 ghost use Rattle.steps.specs.Judges.{Deletes, among, beside};
 ghost use Rattle.steps.specs.Stands.{deletedIn};
-use crate::Counts;
-use crate::Progress;
-use crate::Step;
-use crate::order::hint_left;
-use crate::order::one_more;
+use progress::Counts;
+use progress::Progress;
+use progress::Step;
+use progress::hint_left;
+use progress::one_more;
 use propagation::Units;
 use trail::Falses;
 use trail::Trail;
@@ -54,7 +54,7 @@ pub fn delete(
     }
     let store = p.store;
     let count = clauses::places(store);
-    if redundancy::deletion::delete(proof, marks, count, falses, trail, n) {
+    if deletion::delete(proof, marks, count, falses, trail, n) {
         return Step::Next(with_deletion(p));
     }
     Step::Refuse(13)

@@ -3,20 +3,20 @@ ghost use mathlib.Core.Path.{_≡_};
 ghost use Rattle.rules.specs.Forms.{expansion};
 ghost use Rattle.tables.specs.Tables.{six};
 ghost use Rattle.clauses.specs.Standing.{literalsFrom};
-ghost use Rattle.steps.specs.Shown.{four};
+ghost use Rattle.progress.specs.Shown.{four};
 ghost use Rattle.steps.specs.Judges.{Judges};
 ghost use Rattle.steps.specs.Stands.{oneExpansion};
 ghost use Rattle.steps.specs.Expands.{allMapped, hintAt, fitsAt, ruleBroken};
-use crate::Counts;
-use crate::Progress;
-use crate::Step;
 use crate::additions::stand;
-use crate::order::hint_missing;
-use crate::order::one_more;
 use cells::wide;
 use clauses::Cursor;
-use expansion::Starts;
-use mapping::Noted;
+use mapped::Noted;
+use matrix::Starts;
+use progress::Counts;
+use progress::Progress;
+use progress::Step;
+use progress::hint_missing;
+use progress::one_more;
 use propagation::Watches;
 use trail::Falses;
 use trail::Trail;
@@ -31,7 +31,7 @@ fn all_mapped(proof: &[i32], from: Cursor, noted: &Noted) -> bool
         if x == 0 {
             return true;
         }
-        if mapping::is_mapped(noted, x) {
+        if mapped::is_mapped(noted, x) {
             c = clauses::after(proof, c);
         } else {
             return false;

@@ -1,20 +1,42 @@
 //! Runs the proved library and the independent checker on the same pairs of
 //! files, each pair three ways: all seven fields, every place beyond the
 //! needs and lines' bytes are compared; then lists of checks; then the
-//! command and the C++ example, given as two arguments.
+//! command and the C++ example, given as two arguments. Every refusal must be
+//! put into words, and a full table be named with the places that the
+//! independent checker counts.
 //! `bench FORMULA CERTIFICATE` prints times instead.
 
 mod programs;
 
-use outside::boundary::{Checker, Comparison};
+use outside::boundary::{Checker, Comparison, Tally};
 use outside::reference;
 use std::path::Path;
 
+/// A check takes about 2.2 MiB.
+const STACK: usize = 16 << 20;
+
+const TABLES: [&str; 6] = ["prefix", "matrix", "map", "proof", "marks", "values"];
+
 struct Proved;
+
+/// A refusal has a reason; a full table has its own.
+fn assert_explained(files: [&[u8]; 2], lengths: [usize; 6], seven: &[u32; 7]) {
+    let reasons = hutsvida::explain::reasons(files, &lengths, seven);
+    assert_eq!(reasons.is_empty(), seven[0] == hutsvida::ACCEPTED, "{seven:?} {reasons:?}");
+    if seven[1] == 15 {
+        let needs = reference::check(files[0], files[1], lengths).needs;
+        let full = (0..6).filter(|table| needs[*table] > lengths[*table]);
+        let told = |table: usize| format!("the {} table has {} places, and {} are needed so far", TABLES[table], lengths[table], needs[table]);
+        assert_eq!(reasons, full.map(told).collect::<Vec<_>>());
+    }
+}
 
 impl Checker for Proved {
     fn check(&mut self, formula: &[u8], certificate: &[u8], tables: [&mut [i32]; 6]) -> [u64; 7] {
-        hutsvida::check(formula, certificate, tables).map(u64::from)
+        let lengths = tables.each_ref().map(|table| table.len());
+        let seven = hutsvida::check(formula, certificate, tables);
+        assert_explained([formula, certificate], lengths, &seven);
+        seven.map(u64::from)
     }
 
     fn check_all(&mut self, bytes: &[u8], ends: &[usize], tables: [&mut [i32]; 6], out: &mut [u32]) {
@@ -41,18 +63,40 @@ fn bench(formula: &str, certificate: &str) {
     println!("unproved {expected:?} {:?}", start.elapsed());
 }
 
-fn compare_library(data: &Path) -> Result<(), String> {
+/// The fixed, stored and damaged pairs, lists, and the C++ example.
+fn compare_stored(data: &Path, example: &Path) -> Result<Tally, String> {
     let mut comparison = Comparison::new(3);
     let fixed = comparison.fixed(&mut Proved)?;
     let stored = comparison.data(&mut Proved, data)?;
     comparison.damaged_data(&mut Proved, data, 5, 60)?;
+    comparison.lists(&mut Proved, 6, 5_000)?;
+    println!("library: {fixed} fixed and {stored} stored pairs");
+    programs::compare_example(example, data)?;
+    Ok(comparison.tally)
+}
+
+/// The made pairs, and the command.
+fn compare_made(data: &Path, command: &Path) -> Result<Tally, String> {
+    let mut comparison = Comparison::new(4);
     for seed in [1, 2, 3] {
         comparison.corpus(&mut Proved, seed, 0, 10_000)?;
     }
-    comparison.lists(&mut Proved, 6, 5_000)?;
-    let tally = &comparison.tally;
-    println!("library: {fixed} fixed, {stored} stored and {} damaged or made pairs, each three ways", tally.pairs - (fixed + stored) as u64);
-    println!("library: {} pairs by number 0 to 15: {:?}", tally.pairs, tally.numbers);
+    programs::compare_command(command, data)?;
+    Ok(comparison.tally)
+}
+
+fn compare(data: &Path, command: &Path, example: &Path) -> Result<(), String> {
+    let tally = std::thread::scope(|scope| {
+        let start = || std::thread::Builder::new().stack_size(STACK);
+        let stored = start().spawn_scoped(scope, || compare_stored(data, example)).map_err(|error| error.to_string())?;
+        let made = start().spawn_scoped(scope, || compare_made(data, command)).map_err(|error| error.to_string())?;
+        let cut_off = |_| "a comparison was cut off".to_string();
+        let (stored, made) = (stored.join().map_err(cut_off)?, made.join().map_err(cut_off)?);
+        let mut tally = stored?;
+        tally.add(&made?);
+        Ok::<Tally, String>(tally)
+    })?;
+    println!("library: {} pairs, each three ways, by number 0 to 15: {:?}", tally.pairs, tally.numbers);
     println!("library: {} checks, {} lists and {} lines as the independent checker has them", tally.checks, tally.lists, tally.lines);
     println!("library: {} accepted formulas read recursively, all false", tally.read_false);
     match tally.numbers.iter().position(|count| *count < 100) {
@@ -67,9 +111,7 @@ fn main() -> Result<(), String> {
         [word, formula, certificate] if word == "bench" => bench(formula, certificate),
         [command, example] => {
             let data = Path::new(concat!(env!("CARGO_MANIFEST_DIR"), "/../outside/data"));
-            compare_library(data)?;
-            programs::compare_command(Path::new(command), data)?;
-            programs::compare_example(Path::new(example), data)?;
+            compare(data, Path::new(command), Path::new(example))?;
         }
         _ => return Err("two programs are due, the command and the C++ example".to_string()),
     }

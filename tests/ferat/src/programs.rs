@@ -1,4 +1,4 @@
-//! The command `ferat` and the C++ example, run on files.
+//! The command (`hutsvida ferat`) and the C++ example, run on files.
 
 use outside::corpus::{self, Rng};
 use outside::{fixed, reference};
@@ -34,8 +34,8 @@ const WORDS: [&str; 16] = [
 struct Folder(PathBuf);
 
 impl Folder {
-    fn new() -> Result<Folder, String> {
-        let path = std::env::temp_dir().join(format!("hutsvida-{}", std::process::id()));
+    fn new(name: &str) -> Result<Folder, String> {
+        let path = std::env::temp_dir().join(format!("hutsvida-{name}-{}", std::process::id()));
         std::fs::create_dir(&path).map_err(|error| error.to_string())?;
         Ok(Folder(path))
     }
@@ -59,7 +59,15 @@ struct Pair {
     files: [Vec<u8>; 2],
 }
 
-/// How a program shows a refused line.
+/// How a program is called, how it shows a refused line, and whether reasons
+/// follow, indented twice.
+struct Program<'a> {
+    path: &'a Path,
+    words: &'a [&'a str],
+    shown: Shown,
+    reasons: bool,
+}
+
 type Shown = fn(names: &[OsString; 2], number: u32, file: usize, line: u32, bytes: &[u8]) -> String;
 
 fn by_command(names: &[OsString; 2], number: u32, file: usize, line: u32, bytes: &[u8]) -> String {
@@ -69,7 +77,7 @@ fn by_command(names: &[OsString; 2], number: u32, file: usize, line: u32, bytes:
         return format!("  {name}:0: {word}\n");
     }
     let mut shown = String::new();
-    for byte in bytes {
+    for byte in bytes.iter().take(200) {
         match byte {
             9 => shown += "\\t",
             13 => shown += "\\r",
@@ -77,6 +85,9 @@ fn by_command(names: &[OsString; 2], number: u32, file: usize, line: u32, bytes:
             32..=126 => shown.push(*byte as char),
             _ => shown += &format!("\\x{byte:02x}"),
         }
+    }
+    if bytes.len() > 200 {
+        shown += &format!(" .. ({} bytes in all)", bytes.len());
     }
     format!("  {name}:{line}: {word}: {shown}\n")
 }
@@ -107,17 +118,24 @@ fn expected(pairs: &[Pair], shown: Shown) -> (String, i32) {
     (text, status)
 }
 
-fn run(program: &Path, folder: &Folder, names: &[OsString], out: Stdio) -> Result<Output, String> {
-    let mut command = Command::new(program);
-    let started = command.current_dir(&folder.0).args(names).stdout(out).stderr(Stdio::piped()).spawn();
-    started.and_then(|child| child.wait_with_output()).map_err(|error| format!("{}: {error}", program.display()))
+fn run(program: &Program, folder: &Folder, names: &[OsString], out: Stdio) -> Result<Output, String> {
+    let mut command = Command::new(program.path);
+    command.current_dir(&folder.0).args(program.words).args(names);
+    let started = command.stdout(out).stderr(Stdio::piped()).spawn();
+    started.and_then(|child| child.wait_with_output()).map_err(|error| format!("{}: {error}", program.path.display()))
 }
 
-fn compare(program: &Path, folder: &Folder, name: &str, pairs: &[Pair], shown: Shown) -> Result<(), String> {
+/// What was printed, without the reasons of refusals.
+fn printed(program: &Program, output: &[u8]) -> String {
+    let text = String::from_utf8_lossy(output);
+    text.split_inclusive('\n').filter(|line| !(program.reasons && line.starts_with("    "))).collect()
+}
+
+fn compare(program: &Program, folder: &Folder, name: &str, pairs: &[Pair]) -> Result<(), String> {
     let names: Vec<OsString> = pairs.iter().flat_map(|pair| pair.names.clone()).collect();
     let output = run(program, folder, &names, Stdio::piped())?;
-    let (text, status) = expected(pairs, shown);
-    let found = (String::from_utf8_lossy(&output.stdout).into_owned(), output.status.code());
+    let (text, status) = expected(pairs, program.shown);
+    let found = (printed(program, &output.stdout), output.status.code());
     if found != (text.clone(), Some(status)) {
         let place = found.0.lines().zip(text.lines()).find(|(a, b)| a != b);
         return Err(format!("{name}: status {:?}, expected {status}; first line that differs {place:?}", found.1));
@@ -126,7 +144,7 @@ fn compare(program: &Path, folder: &Folder, name: &str, pairs: &[Pair], shown: S
 }
 
 /// Trouble: exit status 2, a message, and nothing printed.
-fn trouble(program: &Path, folder: &Folder, name: &str, names: &[&OsStr], out: Stdio) -> Result<(), String> {
+fn trouble(program: &Program, folder: &Folder, name: &str, names: &[&OsStr], out: Stdio) -> Result<(), String> {
     let names: Vec<OsString> = names.iter().map(|name| name.to_os_string()).collect();
     let output = run(program, folder, &names, out)?;
     if output.status.code() != Some(2) || !output.stdout.is_empty() || output.stderr.len() < 10 {
@@ -143,15 +161,15 @@ fn stored(folder: &Folder, index: usize, files: [Vec<u8>; 2]) -> Result<Pair, St
 
 /// The stored pairs one by one, the fixed cases as one list, and lists of
 /// made pairs; answers how many pairs were run.
-fn compare_pairs(program: &Path, folder: &Folder, data: &Path, shown: Shown) -> Result<usize, String> {
+fn compare_pairs(program: &Program, folder: &Folder, data: &Path) -> Result<usize, String> {
     let mut count = 0;
     for (name, formula, certificate, _) in corpus::data(data)? {
-        compare(program, folder, &name, &[stored(folder, 0, [formula, certificate])?], shown)?;
+        compare(program, folder, &name, &[stored(folder, 0, [formula, certificate])?])?;
         count += 1;
     }
     let cases = fixed::cases().into_iter().map(|case| [case.formula, case.certificate]);
     let pairs: Vec<Pair> = cases.enumerate().map(|(index, files)| stored(folder, index, files)).collect::<Result<_, _>>()?;
-    compare(program, folder, "the fixed cases", &pairs, shown)?;
+    compare(program, folder, "the fixed cases", &pairs)?;
     count += pairs.len();
     let mut rng = Rng::new(8);
     for list in 0..60 {
@@ -160,7 +178,7 @@ fn compare_pairs(program: &Path, folder: &Folder, data: &Path, shown: Shown) -> 
             let case = corpus::case(7, rng.next() >> 20);
             pairs.push(stored(folder, index, [case.formula, case.certificate])?);
         }
-        compare(program, folder, &format!("list {list} of made pairs"), &pairs, shown)?;
+        compare(program, folder, &format!("list {list} of made pairs"), &pairs)?;
         count += pairs.len();
     }
     Ok(count)
@@ -193,7 +211,7 @@ fn output_full() -> Result<Stdio, String> {
 
 /// Trouble that every program must answer in the same way; answers how many
 /// kinds.
-fn compare_trouble(program: &Path, folder: &Folder) -> Result<usize, String> {
+fn compare_trouble(program: &Program, folder: &Folder) -> Result<usize, String> {
     let files = [fixed::A, fixed::A_PROOF].map(|text| text.replace('/', "\n").into_bytes());
     let names = stored(folder, 0, files)?.names;
     let [f, c] = [names[0].as_os_str(), names[1].as_os_str()];
@@ -210,20 +228,21 @@ fn compare_trouble(program: &Path, folder: &Folder) -> Result<usize, String> {
 
 /// Any file names: a dash first, blanks, a line's end, a backslash, bytes
 /// that are no UTF-8; and the command called through a link.
-fn compare_names(program: &Path, folder: &Folder) -> Result<usize, String> {
+fn compare_names(program: &Program, folder: &Folder) -> Result<usize, String> {
     let link = folder.0.join("a link");
-    std::os::unix::fs::symlink(program, &link).map_err(|error| error.to_string())?;
+    std::os::unix::fs::symlink(program.path, &link).map_err(|error| error.to_string())?;
+    let linked = Program { path: &link, ..*program };
     let files = [fixed::A, "x 1 0 2 0 1 0/o 1 2 0/e 1 0/"].map(|text| text.replace('/', "\n").into_bytes());
     let names = [&b"--help"[..], b"-x", b"two\nlines", b"back\\slash", b"no \xff UTF-8", b" "];
     for name in names.map(OsStr::from_bytes) {
         let formula = folder.write(OsStr::new("-f"), &files[0])?;
         let pair = Pair { names: [formula, folder.write(name, &files[1])?], files: files.clone() };
-        compare(&link, folder, "a name of its own", &[pair], by_command)?;
+        compare(&linked, folder, "a name of its own", &[pair])?;
     }
     Ok(names.len())
 }
 
-fn compare_dense(program: &Path, folder: &Folder) -> Result<usize, String> {
+fn compare_dense(program: &Program, folder: &Folder) -> Result<usize, String> {
     let cases = dense();
     for (files, verdict) in &cases {
         let output = run(program, folder, &stored(folder, 0, files.clone())?.names, Stdio::piped())?;
@@ -237,20 +256,20 @@ fn compare_dense(program: &Path, folder: &Folder) -> Result<usize, String> {
     Ok(cases.len())
 }
 
-pub fn compare_command(program: &Path, data: &Path) -> Result<(), String> {
-    let folder = Folder::new()?;
-    let pairs = compare_pairs(program, &folder, data, by_command)? + compare_names(program, &folder)?;
-    let full = compare_dense(program, &folder)?;
-    let kinds = compare_trouble(program, &folder)?;
+pub fn compare_command(path: &Path, data: &Path) -> Result<(), String> {
+    let (program, folder) = (Program { path, words: &["ferat"], shown: by_command, reasons: true }, Folder::new("command")?);
+    let pairs = compare_pairs(&program, &folder, data)? + compare_names(&program, &folder)?;
+    let full = compare_dense(&program, &folder)?;
+    let kinds = compare_trouble(&program, &folder)?;
     println!("command: {pairs} pairs as the independent checker has them, {full} of the fullest files as worked out by hand");
     println!("command: {kinds} kinds of trouble with status 2 and nothing printed");
     Ok(())
 }
 
-pub fn compare_example(program: &Path, data: &Path) -> Result<(), String> {
-    let folder = Folder::new()?;
-    let pairs = compare_pairs(program, &folder, data, by_example)?;
-    let kinds = compare_trouble(program, &folder)?;
+pub fn compare_example(path: &Path, data: &Path) -> Result<(), String> {
+    let (program, folder) = (Program { path, words: &[], shown: by_example, reasons: false }, Folder::new("example")?);
+    let pairs = compare_pairs(&program, &folder, data)?;
+    let kinds = compare_trouble(&program, &folder)?;
     println!("C++ example: {pairs} pairs as the independent checker has them, {kinds} kinds of trouble with status 2 and nothing printed");
     Ok(())
 }

@@ -113,6 +113,19 @@ pub struct Tally {
     pub lists: u64,
 }
 
+impl Tally {
+    pub fn add(&mut self, other: &Tally) {
+        self.pairs += other.pairs;
+        self.checks += other.checks;
+        self.read_false += other.read_false;
+        self.lines += other.lines;
+        self.lists += other.lists;
+        for (count, more) in self.numbers.iter_mut().zip(other.numbers) {
+            *count += more;
+        }
+    }
+}
+
 /// The tables that are handed on from pair to pair, never cleaned, the pair
 /// that was checked last, and the counts.
 pub struct Comparison {

@@ -1,7 +1,8 @@
 use mathlib.Core.Path.{sym, _∙_}
 use borrow.Author.Needs.{needs}
 use Rattle.expansion.specs.Codes.{expandsAt}
-use Rattle.expansion.proofs.Arms.{first-unfit, expands-no, expands-yes}
+use Rattle.literals.proofs.Arms.{first-unfit}
+use Rattle.expansion.proofs.Arms.{expands-no, expands-yes}
 use Rattle.expansion.proofs.expands.Statement.{statement}
 use Rattle.expansion.proofs.expands.Tie as tie
 

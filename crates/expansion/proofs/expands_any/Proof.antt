@@ -2,10 +2,11 @@ use mathlib.Core.Path.{_≡_, sym, _∙_, refl}
 use borrow.Author.Needs.{needs}
 use native.Mathlib.Omega.{arith}
 use Prim.Native.Nat.{_-_, _≤_}
-use Rattle.expansion.specs.Index.{anyFrom}
+use Rattle.matrix.specs.Index.{anyFrom}
 use Rattle.expansion.specs.Codes.{expandsAt, expandsAny}
-use Rattle.expansion.proofs.Arms.{first-unfit, expands-no}
-use Rattle.expansion.proofs.IndexLaws.{any-start, any-done, any-found, any-next}
+use Rattle.literals.proofs.Arms.{first-unfit}
+use Rattle.expansion.proofs.Arms.{expands-no}
+use Rattle.matrix.proofs.IndexLaws.{any-start, any-done, any-found, any-next}
 use Rattle.expansion.proofs.expands_any.Statement.{statement}
 use Rattle.expansion.proofs.expands_any.Tie as tie
 

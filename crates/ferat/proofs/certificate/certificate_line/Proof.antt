@@ -1,5 +1,5 @@
 use Rattle.tables.specs.Tables.{Tables, six}
-use Rattle.steps.specs.Shown.{Work, four}
+use Rattle.progress.specs.Shown.{Work, four}
 use Rattle.rules.specs.Forms.{mappingForm, hintsForm, clauseForm, expansion, addition, deletion}
 use Rattle.ferat.proofs.LineLaws.{means, line-skipped, line-formed}
 use borrow.Author.Needs.{needs}

@@ -4,7 +4,7 @@ use mathlib.Core.Path.{_∙_}
 use Prim.Native.Nat.{_-_}
 use lib.ListN.{length}
 use Rattle.tables.specs.Tables.{tables}
-use Rattle.steps.specs.Shown.{work}
+use Rattle.progress.specs.Shown.{work}
 use Rattle.ferat.proofs.ReadLaws.{Midway, midway-start, midway-ends, midway-less, midway-fits, midway-count, midway-next, midway-refused, midway-last}
 use Rattle.ferat.proofs.certificate.read_certificate.Statement.{statement}
 use Rattle.ferat.proofs.certificate.read_certificate.Tie as tie

@@ -4,7 +4,7 @@ use Prim.Native.Nat.{ℕ, _-_}
 use lib.ListN.{length}
 use Rattle.lists.specs.Lists.{isList}
 use Rattle.lists.proofs.ListLaws.{on-the-way, is-lost, is-more}
-use Rattle.redundancy.specs.Deletions.{Listed}
+use Rattle.deletion.specs.Deletions.{Listed}
 use Rattle.ferat.proofs.DeletionLaws.{Partly, listing-start, listing-done, listing-next, line-end, line-more}
 use borrow.Author.Needs.{needs}
 use Rattle.ferat.proofs.deletion_lines.list_line.Statement.{statement}

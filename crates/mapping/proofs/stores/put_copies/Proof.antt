@@ -1,7 +1,7 @@
 use native.Mathlib.Omega.{arith}
 use Prim.Native.Nat.{_-_}
 use lib.ListN.{length}
-use Rattle.mapping.proofs.NumberLaws.{item-told}
+use Rattle.mapped.proofs.NumberLaws.{item-told}
 use Rattle.mapping.proofs.CopyLaws.{Copying, copying-start, copying-end, copying-short, copying-more}
 use borrow.Author.Needs.{needs}
 use Rattle.mapping.proofs.stores.put_copies.Statement.{statement}

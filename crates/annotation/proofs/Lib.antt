@@ -1,0 +1,2 @@
+-- Laws of rule 8.
+pub mod AnnotationLaws

@@ -1,0 +1,64 @@
+use native.Mathlib.Omega.{arith}
+use mathlib.Core.Path.{_≡_, refl, sym, _∙_}
+use Prim.Native.Nat.{_-_}
+use lib.ListN.{length}
+use Rattle.lines.specs.Lists.{all}
+use Rattle.prefix.specs.Prefix.{entry, dependency}
+use Rattle.mapped.specs.Numbers.{numbersAt, endOf}
+use Rattle.mapped.proofs.NumberLaws.{item-told, all-end, all-more, all-fails}
+use borrow.Author.Needs.{needs}
+use Rattle.annotation.proofs.all_depend.Statement.{statement}
+use Rattle.annotation.proofs.all_depend.Tie as tie
+
+abbrev Inv-loop : tie.InvT-loop
+Inv-loop line at prefix u i₀ i =
+    (all (λ e. dependency (entry (prefix)) e (u)) (numbersAt line i) ≡ all (λ e. dependency (entry (prefix)) e (u)) (numbersAt line at)) × (endOf line i ≡ endOf line at)
+
+abbrev μ-loop : tie.MeasureT-loop
+μ-loop line at prefix u i₀ i = length line - i
+
+loop-holds : tie.Need-loop-holds Inv-loop μ-loop
+loop-holds c = (refl, refl)
+
+item-at-requires : tie.Need-item-at-requires Inv-loop μ-loop
+item-at-requires c κs = search needs
+
+enum-known-n : tie.Need-enum-known-n Inv-loop μ-loop
+enum-known-n c = search needs
+
+returns : tie.Need-returns Inv-loop μ-loop
+returns c = let l = c .before .before .before .before in
+    all-end 8 (λ e. dependency (entry (l .before .before .args .prefix .now)) e (l .before .before .args .u)) _ _ (l .loop .i) (l .loop .inv) (item-told _ (l .loop .i) (c .before .n .given .1) (c .before .before .before .item-at .ensures))
+
+enum-known-e : tie.Need-enum-known-e Inv-loop μ-loop
+enum-known-e c = search needs
+
+depends-requires : tie.Need-depends-requires Inv-loop μ-loop
+depends-requires c κs = search needs
+
+loop-less : tie.Need-loop-less Inv-loop μ-loop
+loop-less c = let s = c .before .before .before in let o = item-told _ (s .before .before .before .loop .i) (s .e .given .1) (s .before .before .item-at .ensures) in omega arith
+
+loop-again : tie.Need-loop-again Inv-loop μ-loop
+loop-again c = let s = c .before .before .before in let l = s .before .before .before in
+    all-more 8 (λ e. dependency (entry (l .before .before .args .prefix .now)) e (l .before .before .args .u)) _ _ (l .loop .i) (l .loop .inv) (item-told _ (l .loop .i) (s .e .given .1) (s .before .before .item-at .ensures)) (sym (c .before .depends .ensures) ∙ c .if1 .taken)
+
+returns-2 : tie.Need-returns-2 Inv-loop μ-loop
+returns-2 c = let s = c .before .before .before in let l = s .before .before .before in
+    all-fails 8 (λ e. dependency (entry (l .before .before .args .prefix .now)) e (l .before .before .args .u)) _ _ (l .loop .i) (l .loop .inv) (item-told _ (l .loop .i) (s .e .given .1) (s .before .before .item-at .ensures)) (sym (c .before .depends .ensures) ∙ c .if1 .left)
+
+pub all-depend-spec : {M : Type 1} → statement M
+all-depend-spec =
+    tie.close
+    (tie.spec
+    Inv-loop
+    μ-loop
+    loop-holds
+    item-at-requires
+    enum-known-n
+    returns
+    enum-known-e
+    depends-requires
+    loop-less
+    loop-again
+    returns-2)

@@ -1,0 +1,3 @@
+-- What the tables say of a copy, and marks.
+pub mod Marks
+pub mod Copies

@@ -1,0 +1,2 @@
+-- Laws of crate deletion.
+pub mod DeletionLaws

@@ -1,0 +1,2 @@
+-- What the contracts of crate deletion say.
+pub mod Deletions

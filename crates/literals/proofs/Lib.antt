@@ -1,0 +1,2 @@
+-- Laws of the line's literals against the clause's.
+pub mod Arms

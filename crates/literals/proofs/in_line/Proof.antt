@@ -1,0 +1,20 @@
+use mathlib.Core.Path.{sym, _∙_}
+use borrow.Author.Needs.{needs}
+use Rattle.literals.proofs.Arms.{line-yes, line-no}
+use Rattle.literals.proofs.in_line.Statement.{statement}
+use Rattle.literals.proofs.in_line.Tie as tie
+
+existential-requires : tie.Need-existential-requires
+existential-requires c κs = search needs
+
+stood-for-requires : tie.Need-stood-for-requires
+stood-for-requires c κs = search needs
+
+returns : tie.Need-returns
+returns c = line-yes _ _ _ _ (sym (c .before .before .existential .ensures) ∙ c .before .if1 .taken) (c .stood-for .ensures)
+
+returns-2 : tie.Need-returns-2
+returns-2 c = line-no _ _ _ _ (sym (c .before .existential .ensures) ∙ c .if1 .left)
+
+pub in-line-spec : {M : Type 1} → statement M
+in-line-spec = tie.close (tie.spec existential-requires stood-for-requires returns returns-2)

@@ -1,0 +1,2 @@
+-- The line's literals against the clause's.
+pub mod Literals

@@ -1,0 +1,2 @@
+-- Laws of the index of the matrix clauses.
+pub mod IndexLaws

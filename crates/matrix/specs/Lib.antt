@@ -1,0 +1,2 @@
+-- Where the clauses of the matrix start in its table.
+pub mod Index

@@ -1,0 +1,3 @@
+-- What is carried from line to line.
+pub mod Order
+pub mod Shown
