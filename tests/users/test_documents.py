@@ -153,11 +153,13 @@ class Expand(Case):
 
     def expand(self, formula, *options):
         words = [os.path.join(ROOT, "examples/expand"), *options, formula, "made.ferat"]
-        return self.run_in(words, env=with_solver(os.path.join(self.folder, "tools")))
+        return self.run_in(words, env=self.environment)
 
     def setUp(self):
         super().setUp()
-        os.mkdir(os.path.join(self.folder, "tools"))
+        tools = os.path.join(self.folder, "tools")
+        os.mkdir(tools)
+        self.environment = with_solver(tools)
 
     def solvers(self):
         return [[], ["--solver", os.path.join(ROOT, "tests/users/solver")]]
