@@ -18,9 +18,14 @@ static MEMORY: memory::Memory = memory::Memory;
 /// A check takes about 2.2 MiB.
 const STACK: usize = 16 << 20;
 
+/// What `help` says without a verb.
+const USAGE: &str = include_str!("../help/main.txt");
+
+const FERAT: &str = include_str!("../help/ferat.txt");
+
 /// The verbs and what `help` says of each.
 const HELP: [(&str, &str); 3] = [
-    ("ferat", include_str!("../help/ferat.txt")),
+    ("ferat", FERAT),
     ("help", include_str!("../help/help.txt")),
     ("version", include_str!("../help/version.txt")),
 ];
@@ -70,11 +75,9 @@ fn check_pairs(names: &[OsString], bytes: &[Vec<u8>]) -> Result<bool, String> {
 
 fn ferat(names: &[OsString]) -> Result<bool, String> {
     if names.is_empty() || names.len() % 2 != 0 {
-        return Err(format!("files come in pairs, FORMULA CERTIFICATE, and {} were given\n{}", names.len(), HELP[0].1));
+        return Err(format!("files come in pairs, FORMULA CERTIFICATE, and {} were given\n{FERAT}", names.len()));
     }
-    if streams::output_closed() {
-        return Err("cannot print: standard output is closed".to_string());
-    }
+    streams::require_output()?;
     let bytes = files::read_all(names)?;
     std::thread::scope(|scope| {
         let check = || check_pairs(names, &bytes);
@@ -86,7 +89,7 @@ fn ferat(names: &[OsString]) -> Result<bool, String> {
 
 fn help(verbs: &[OsString]) -> Result<bool, String> {
     let text = match verbs {
-        [] => Some(include_str!("../help/main.txt")),
+        [] => Some(USAGE),
         [verb] => HELP.iter().find(|(name, _)| verb == name).map(|(_, text)| *text),
         _ => return Err("help takes one verb at most".to_string()),
     };
@@ -105,13 +108,13 @@ fn version(words: &[OsString]) -> Result<bool, String> {
 }
 
 fn unknown(verb: &OsStr) -> String {
-    format!("there is no verb {}\n{}", files::shown_name(verb), include_str!("../help/main.txt"))
+    format!("there is no verb {}\n{USAGE}", files::shown_name(verb))
 }
 
 /// Whether all was accepted; trouble is a message.
 fn run(words: &[OsString]) -> Result<bool, String> {
     let Some((verb, rest)) = words.split_first() else {
-        return Err(format!("a verb is due\n{}", include_str!("../help/main.txt")));
+        return Err(format!("a verb is due\n{USAGE}"));
     };
     match verb.to_str() {
         Some("ferat") => ferat(rest),

@@ -32,15 +32,17 @@ pub fn input_closed() -> bool {
     CLOSED[0].load(Ordering::Relaxed)
 }
 
-pub fn output_closed() -> bool {
-    CLOSED[1].load(Ordering::Relaxed)
+/// Trouble if nothing can be printed.
+pub fn require_output() -> Result<(), String> {
+    if CLOSED[1].load(Ordering::Relaxed) {
+        return Err("cannot print: standard output is closed".to_string());
+    }
+    Ok(())
 }
 
 /// Prints at once.
 pub fn print(text: &[u8]) -> Result<(), String> {
-    if output_closed() {
-        return Err("cannot print: standard output is closed".to_string());
-    }
+    require_output()?;
     let mut out = std::io::stdout().lock();
     let printed = out.write_all(text).and_then(|()| out.flush());
     printed.map_err(|error| format!("cannot print: {error}"))
