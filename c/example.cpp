@@ -1,10 +1,12 @@
 // Checks pairs of files with the proved library: example FORMULA CERTIFICATE [FORMULA CERTIFICATE ...]
-// One pair is one check; several are one list of checks in the same tables. Prints the seven fields for each pair and, for a
-// refusal, the line that it names. Exit status: 0 all accepted, 1 one refused, 2 trouble.
+// A certificate whose name ends in .ferp is a FERP one, every other a FERAT one. One pair is one check; several are one list of
+// checks in the same tables. Prints the seven fields for each pair and, for a refusal, the line that it names. Exit status:
+// 0 all accepted, 1 one refused, 2 trouble.
 #include "hutsvida.h"
 
 #include <array>
 #include <cstdio>
+#include <string_view>
 #include <vector>
 
 namespace {
@@ -35,21 +37,29 @@ bool read_file(const char *name, Bytes &bytes) {
     return whole;
 }
 
-void check(const Bytes &formula, const Bytes &certificate, Tables &t, uint32_t *seven) {
-    hutsvida_check(lent(formula), formula.size(), lent(certificate), certificate.size(), t.at(0), t.length(0), t.at(1),
-                   t.length(1), t.at(2), t.length(2), t.at(3), t.length(3), t.at(4), t.length(4), t.at(5), t.length(5), seven);
+uint32_t kind_of(std::string_view name) {
+    const std::string_view end = ".ferp";
+    bool ferp = name.size() >= end.size() && name.substr(name.size() - end.size()) == end;
+    return ferp ? HUTSVIDA_FERP : HUTSVIDA_FERAT;
 }
 
-void check_all(const std::vector<Bytes> &files, Tables &t, std::vector<uint32_t> &out) {
+void check(uint32_t kind, const Bytes &formula, const Bytes &certificate, Tables &t, uint32_t *seven) {
+    auto call = kind == HUTSVIDA_FERP ? hutsvida_check_ferp : hutsvida_check;
+    call(lent(formula), formula.size(), lent(certificate), certificate.size(), t.at(0), t.length(0), t.at(1), t.length(1),
+         t.at(2), t.length(2), t.at(3), t.length(3), t.at(4), t.length(4), t.at(5), t.length(5), seven);
+}
+
+void check_all(const std::vector<uint32_t> &kinds, const std::vector<Bytes> &files, Tables &t, std::vector<uint32_t> &out) {
     Bytes bytes;
     std::vector<size_t> ends;
     for (const Bytes &file : files) {
         bytes.insert(bytes.end(), file.begin(), file.end());
         ends.push_back(bytes.size());
     }
-    hutsvida_check_all(lent(bytes), bytes.size(), hutsvida_ends(ends.data(), ends.size()), ends.size(), t.at(0), t.length(0),
-                       t.at(1), t.length(1), t.at(2), t.length(2), t.at(3), t.length(3), t.at(4), t.length(4), t.at(5),
-                       t.length(5), hutsvida_out(out.data(), out.size()), out.size());
+    hutsvida_check_all(lent(bytes), bytes.size(), hutsvida_ends(ends.data(), ends.size()), ends.size(),
+                       hutsvida_kinds(kinds.data(), kinds.size()), kinds.size(), t.at(0), t.length(0), t.at(1), t.length(1),
+                       t.at(2), t.length(2), t.at(3), t.length(3), t.at(4), t.length(4), t.at(5), t.length(5),
+                       hutsvida_out(out.data(), out.size()), out.size());
 }
 
 void print(const uint32_t *seven, const Bytes &formula, const Bytes &certificate) {
@@ -80,12 +90,14 @@ int main(int count, char **names) {
             return 2;
         }
     }
+    std::vector<uint32_t> kinds;
+    for (int i = 2; i < count; i += 2) kinds.push_back(kind_of(names[i]));
     Tables tables;
-    std::vector<uint32_t> out(files.size() / 2 * HUTSVIDA_FIELDS);
-    if (files.size() == 2) {
-        check(files[0], files[1], tables, out.data());
+    std::vector<uint32_t> out(kinds.size() * HUTSVIDA_FIELDS);
+    if (kinds.size() == 1) {
+        check(kinds[0], files[0], files[1], tables, out.data());
     } else {
-        check_all(files, tables, out);
+        check_all(kinds, files, tables, out);
     }
     bool all = true;
     for (size_t i = 0; i < files.size(); i += 2) {

@@ -3,12 +3,9 @@
 //! the check. Not proved, and no part of any verdict.
 
 use crate::facts::Facts;
-use crate::text::{lines, lists, number, shown, told, Line};
-use crate::{line_ends, malformed, LONGEST};
+use crate::text::{first_list, lines, lists, number, shown, Line};
+use crate::{limits, line_ends, malformed, parents, FERP, LONGEST};
 use std::collections::HashSet;
-
-/// The limits of V, C and the copies.
-const LIMITS: [i64; 3] = [4_096, 8_192, 16_384];
 
 const TABLES: [&str; 6] = ["prefix", "matrix", "map", "proof", "marks", "values"];
 
@@ -25,29 +22,6 @@ fn part(files: [&[u8]; 2], file: u32, line: usize) -> &[u8] {
 /// are given.
 pub fn shown_line(files: [&[u8]; 2], file: u32, line: usize) -> String {
     shown(part(files, file, line), SHOWN)
-}
-
-/// The first number of a line that is above its limit.
-fn out_of_range(file: u32, tokens: &[&[u8]], before: &Facts) -> Option<String> {
-    let [v, c] = before.counts();
-    let copies = (LIMITS[2], format!("a copy is at most {}", LIMITS[2]));
-    let variables = (v, format!("the formula's V is {v}"));
-    let mut zeros = 0;
-    for (index, token) in tokens.iter().enumerate() {
-        let (limit, what) = match (file, tokens[0], zeros) {
-            (1, b"p", _) if index == 2 => (LIMITS[0], format!("V is at most {}", LIMITS[0])),
-            (1, b"p", _) => (LIMITS[1], format!("C is at most {}", LIMITS[1])),
-            (1, _, _) | (_, b"x", 1 | 2) => variables.clone(),
-            (_, b"o", _) => (c, format!("the formula's C is {c}")),
-            _ => copies.clone(),
-        };
-        match number(token) {
-            Some(0) => zeros += 1,
-            Some(n) if n.abs() > limit => return Some(told(tokens, index, &what)),
-            _ => {}
-        }
-    }
-    None
 }
 
 fn bound_twice(line: &Line, before: &Facts) -> Option<String> {
@@ -73,7 +47,7 @@ fn clause_count(line: Option<&Line>, before: &Facts) -> String {
 
 fn mapped_twice(line: &Line, before: &Facts) -> Option<String> {
     let mut met = HashSet::new();
-    let copies = lists(&line.tokens[1..]).into_iter().next()?;
+    let copies = first_list(&line.tokens[1..]);
     let again = copies.iter().find(|copy| before.mapped.contains_key(copy) || !met.insert(**copy))?;
     Some(match before.mapped.get(again) {
         Some(number) => format!("copy {again} is mapped in line {number}"),
@@ -104,7 +78,7 @@ fn bad_annotation(line: &Line, before: &Facts) -> Option<String> {
 }
 
 fn unmapped(line: &Line, before: &Facts) -> Option<String> {
-    let literals = lists(&line.tokens[1..]).concat();
+    let literals = first_list(&line.tokens[1..]);
     let copy = literals.iter().map(|l| l.abs()).find(|copy| !before.mapped.contains_key(copy))?;
     Some(format!("copy {copy} is in no mapping line"))
 }
@@ -117,12 +91,14 @@ fn hint_count(line: Option<&Line>, before: &Facts) -> String {
     }
 }
 
-fn no_expansion(files: [&[u8]; 2], before: &Facts) -> Option<String> {
-    let Some(hints) = &before.hints else {
-        return Some("no clause of the formula has this expansion".to_string());
+/// The clause that a FERP line names, or the hint of an `e` line.
+fn no_expansion(files: [&[u8]; 2], line: &Line, before: &Facts) -> Option<String> {
+    let hint = match (before.kind, &before.hints) {
+        (FERP, _) => *lists(&line.tokens[1..]).get(1)?.first()?,
+        (_, Some(hints)) => *hints.get(before.expansions)?,
+        (_, None) => return Some("no clause of the formula has this expansion".to_string()),
     };
-    let hint = *hints.get(before.expansions)?;
-    let line = *before.clauses.get(hint as usize - 1)?;
+    let line = *before.clauses.get((hint as usize).wrapping_sub(1))?;
     Some(format!("clause {hint} (line {line} of the formula) has no such expansion: {}", shown_line(files, 1, line)))
 }
 
@@ -131,6 +107,18 @@ fn not_implied(line: &Line) -> String {
         Some(first) => format!("it is not RUP, and not RAT on its first literal, {first}"),
         None => "propagation from the standing clauses alone has no conflict".to_string(),
     }
+}
+
+fn not_closed(kind: u32) -> &'static str {
+    match kind {
+        FERP => "the certificate derives no empty clause",
+        _ => "no empty clause stands at the end of the certificate",
+    }
+}
+
+fn index_used(line: &Line, before: &Facts) -> Option<String> {
+    let index = number(line.tokens[0])?;
+    Some(format!("{index} is the index of line {}", before.derived.get(&index)?.line))
 }
 
 /// Each table that the lines so far, this one included, need more places of
@@ -145,8 +133,9 @@ fn table_full(file: u32, line: &Line, mut before: Facts, lengths: &[usize; 6]) -
 }
 
 /// What can be said of a refusal beyond its word, a line of text each, for a
-/// check of two files in tables of these lengths.
-pub fn reasons(files: [&[u8]; 2], lengths: &[usize; 6], seven: &[u32; 7]) -> Vec<String> {
+/// check of two files in tables of these lengths, the certificate's kind being
+/// `FERAT` or `FERP`.
+pub fn reasons(kind: u32, files: [&[u8]; 2], lengths: &[usize; 6], seven: &[u32; 7]) -> Vec<String> {
     let [_, refusal, file, line, ..] = *seven;
     if refusal == 0 {
         return Vec::new();
@@ -154,14 +143,14 @@ pub fn reasons(files: [&[u8]; 2], lengths: &[usize; 6], seven: &[u32; 7]) -> Vec
     if refusal == 1 {
         return vec![format!("a file may have at most {LONGEST} bytes")];
     }
-    let before = Facts::before(files, file, line as usize);
+    let before = Facts::before(kind, files, file, line as usize);
     let start = line_ends(files[0], files[1], file, line as usize)[0];
     let bytes = part(files, file, line as usize);
     let found = lines(bytes).next();
     let line = found.as_ref();
     let told = match (refusal, line) {
         (2, _) => return malformed::reasons(files, file, start, line, &before),
-        (3, Some(line)) => out_of_range(file, &line.tokens, &before),
+        (3, Some(line)) => limits::reason(file, &line.tokens, &before),
         (4, Some(line)) => bound_twice(line, &before),
         (5, Some(line)) => unbound(line, &before),
         (6, _) => Some(clause_count(line, &before)),
@@ -169,11 +158,13 @@ pub fn reasons(files: [&[u8]; 2], lengths: &[usize; 6], seven: &[u32; 7]) -> Vec
         (8, Some(line)) => bad_annotation(line, &before),
         (9, Some(line)) => unmapped(line, &before),
         (10, _) => Some(hint_count(line, &before)),
-        (11, Some(_)) => no_expansion(files, &before),
+        (11, Some(line)) => no_expansion(files, line, &before),
         (12, Some(line)) => Some(not_implied(line)),
         (13, Some(_)) => Some("no standing clause has exactly these literals".to_string()),
-        (14, _) => Some("no empty clause stands at the end of the certificate".to_string()),
+        (14, _) => Some(not_closed(kind).to_string()),
         (15, Some(line)) => return table_full(file, line, before, lengths),
+        (16, Some(line)) => return parents::reasons(line, &before),
+        (17, Some(line)) => index_used(line, &before),
         _ => None,
     };
     told.into_iter().collect()

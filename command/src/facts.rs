@@ -1,16 +1,19 @@
 //! What the lines before a refused one say; all of them are accepted, so
 //! they are well formed and within the limits.
 
-use crate::text::{lines, lists, number, Line};
+use crate::text::{first_list, lines, lists, number, Line};
+use crate::FERP;
 use std::collections::HashMap;
 
-/// The parts of a certificate, in their order.
-#[derive(Clone, Copy, PartialEq, PartialOrd)]
+/// The parts of a certificate, in their order: mapping lines, then those of
+/// FERAT, or FERP's clause lines.
+#[derive(Clone, Copy, PartialEq)]
 pub enum Part {
     Mapping,
     Hints,
     Expansions,
     Additions,
+    Derivations,
 }
 
 /// The quantifier of a variable, and its place in the prefix.
@@ -19,7 +22,15 @@ pub struct Bound {
     pub place: usize,
 }
 
+/// A clause of a FERP certificate, and its line.
+pub struct Derived {
+    pub line: usize,
+    pub literals: Vec<i64>,
+}
+
 pub struct Facts {
+    /// The certificate's kind, `FERAT` or `FERP`.
+    pub kind: u32,
     /// V and C of the `p` line, once there was one.
     pub problem: Option<[i64; 2]>,
     pub bound: HashMap<i64, Bound>,
@@ -30,14 +41,17 @@ pub struct Facts {
     pub expansions: usize,
     /// The line that maps each copy.
     pub mapped: HashMap<i64, usize>,
+    /// The clauses of a FERP certificate by their index.
+    pub derived: HashMap<i64, Derived>,
     /// The places needed: prefix, matrix, map, proof, marks, values.
     pub needs: [usize; 6],
 }
 
 impl Facts {
     /// Of the lines before a line of a file; before line 0, of all lines.
-    pub fn before(files: [&[u8]; 2], file: u32, line: usize) -> Facts {
+    pub fn before(kind: u32, files: [&[u8]; 2], file: u32, line: usize) -> Facts {
         let mut facts = Facts {
+            kind,
             problem: None,
             bound: HashMap::new(),
             clauses: Vec::new(),
@@ -45,6 +59,7 @@ impl Facts {
             hints: None,
             expansions: 0,
             mapped: HashMap::new(),
+            derived: HashMap::new(),
             needs: [0; 6],
         };
         let earlier = |other: &Line| line == 0 || other.number < line;
@@ -84,11 +99,12 @@ impl Facts {
         let (letter, rest) = (line.tokens[0], &line.tokens[1..]);
         match letter {
             b"x" => {
-                let copies = lists(rest).into_iter().next().unwrap_or_default();
+                let copies = first_list(rest);
                 self.needs[2] += rest.len();
                 self.name_copies(&copies);
                 self.mapped.extend(copies.iter().map(|copy| (*copy, line.number)));
             }
+            _ if self.kind == FERP => self.derivation(line),
             b"o" => {
                 self.part = Part::Hints;
                 self.needs[3] += rest.len();
@@ -97,22 +113,32 @@ impl Facts {
             b"e" => {
                 self.part = Part::Expansions;
                 self.expansions += 1;
-                self.clause(rest);
+                self.clause(&first_list(rest), 1);
             }
             _ => {
                 self.part = Part::Additions;
                 if letter != b"d" {
-                    self.clause(&line.tokens);
+                    self.clause(&first_list(&line.tokens), 1);
                 }
             }
         }
     }
 
-    /// A clause that is stored.
-    fn clause(&mut self, tokens: &[&[u8]]) {
-        self.needs[3] += tokens.len();
+    /// A clause line of a FERP certificate.
+    fn derivation(&mut self, line: &Line) {
+        self.part = Part::Derivations;
+        let literals = first_list(&line.tokens[1..]);
+        self.clause(&literals, 2);
+        if let Some(index) = number(line.tokens[0]) {
+            self.derived.insert(index, Derived { line: line.number, literals });
+        }
+    }
+
+    /// A clause that is stored, with so many places beside its literals.
+    fn clause(&mut self, literals: &[i64], more: usize) {
+        self.needs[3] += literals.len() + more;
         self.needs[4] += 1;
-        self.name_copies(&lists(tokens).concat());
+        self.name_copies(literals);
     }
 
     fn name_copies(&mut self, copies: &[i64]) {

@@ -1,54 +1,50 @@
-//! The three calls of the proved library (crate `ferat_c`), for Rust. The two
-//! checks take about 2.2 MiB of stack: more than a thread has by default.
+//! The calls of the proved library (crate `ferat_c`), for Rust. The checks
+//! take up to 2.2 MiB of stack: more than a thread has by default.
 //! `explain` puts a refusal into words, and is not proved.
 
 pub mod explain;
 mod facts;
+mod limits;
 mod malformed;
+mod parents;
 mod text;
 
 use std::os::raw::c_uint;
 
+/// Declares a call of the library and makes it: the slices that it reads and
+/// the six tables, each with its own length, then what it writes. All are lent
+/// for the call alone.
+macro_rules! call {
+    ($name:ident, [$($read:ident: $of:ty),*], $tables:ident, $($result:expr => $type:ty),*) => {{
+        extern "C" {
+            fn $name(
+                $(_: *const $of, _: usize,)*
+                prefix: *mut i32, prefix_length: usize,
+                matrix: *mut i32, matrix_length: usize,
+                map: *mut i32, map_length: usize,
+                proof: *mut i32, proof_length: usize,
+                marks: *mut i32, marks_length: usize,
+                values: *mut i32, values_length: usize,
+                $(_: $type),*
+            );
+        }
+        let [prefix, matrix, map, proof, marks, values] = $tables;
+        unsafe {
+            $name(
+                $($read.as_ptr(), $read.len(),)*
+                prefix.as_mut_ptr(), prefix.len(),
+                matrix.as_mut_ptr(), matrix.len(),
+                map.as_mut_ptr(), map.len(),
+                proof.as_mut_ptr(), proof.len(),
+                marks.as_mut_ptr(), marks.len(),
+                values.as_mut_ptr(), values.len(),
+                $($result),*
+            );
+        }
+    }};
+}
+
 extern "C" {
-    fn hutsvida_check(
-        formula: *const u8,
-        formula_length: usize,
-        certificate: *const u8,
-        certificate_length: usize,
-        prefix: *mut i32,
-        prefix_length: usize,
-        matrix: *mut i32,
-        matrix_length: usize,
-        map: *mut i32,
-        map_length: usize,
-        proof: *mut i32,
-        proof_length: usize,
-        marks: *mut i32,
-        marks_length: usize,
-        values: *mut i32,
-        values_length: usize,
-        seven: *mut c_uint,
-    );
-    fn hutsvida_check_all(
-        bytes: *const u8,
-        bytes_length: usize,
-        ends: *const usize,
-        ends_length: usize,
-        prefix: *mut i32,
-        prefix_length: usize,
-        matrix: *mut i32,
-        matrix_length: usize,
-        map: *mut i32,
-        map_length: usize,
-        proof: *mut i32,
-        proof_length: usize,
-        marks: *mut i32,
-        marks_length: usize,
-        values: *mut i32,
-        values_length: usize,
-        out: *mut c_uint,
-        out_length: usize,
-    );
     fn hutsvida_line(
         formula: *const u8,
         formula_length: usize,
@@ -65,8 +61,12 @@ extern "C" {
 pub const ACCEPTED: u32 = 1;
 pub const REFUSED: u32 = 2;
 
+/// The kinds of certificates, for a list of checks.
+pub const FERAT: u32 = 1;
+pub const FERP: u32 = 2;
+
 /// The words of the numbers; 0 is an acceptance.
-pub const WORDS: [&str; 16] = [
+pub const WORDS: [&str; 18] = [
     "accepted",
     "overlong",
     "malformed",
@@ -83,6 +83,8 @@ pub const WORDS: [&str; 16] = [
     "nothing to delete",
     "not closed",
     "table full",
+    "bad parent",
+    "index used",
 ];
 
 /// A longer file is refused 1, whatever its bytes are.
@@ -96,63 +98,29 @@ pub const PLACES: [usize; 6] = [4_096, 524_288, 524_288, 524_288, 524_288, 16_38
 /// The six tables, lent: prefix, matrix, map, proof, marks, values.
 pub type Tables<'a> = [&'a mut [i32]; 6];
 
-/// The check: the word, number, file, line, and the `e`, addition and deletion
-/// lines accepted.
+/// The check of a FERAT certificate: the word, number, file, line, and the
+/// `e`, addition and deletion lines accepted.
 pub fn check(formula: &[u8], certificate: &[u8], tables: Tables) -> [u32; 7] {
-    let [prefix, matrix, map, proof, marks, values] = tables;
     let mut seven = [0; 7];
-    // Each slice goes with its own length; all are lent for the call alone.
-    unsafe {
-        hutsvida_check(
-            formula.as_ptr(),
-            formula.len(),
-            certificate.as_ptr(),
-            certificate.len(),
-            prefix.as_mut_ptr(),
-            prefix.len(),
-            matrix.as_mut_ptr(),
-            matrix.len(),
-            map.as_mut_ptr(),
-            map.len(),
-            proof.as_mut_ptr(),
-            proof.len(),
-            marks.as_mut_ptr(),
-            marks.len(),
-            values.as_mut_ptr(),
-            values.len(),
-            seven.as_mut_ptr(),
-        );
-    }
+    call!(hutsvida_check, [formula: u8, certificate: u8], tables, seven.as_mut_ptr() => *mut c_uint);
     seven
 }
 
-/// The list: files one after the other in `bytes`, two ends for each check;
-/// seven fields for each into `out`, as far as it goes.
-pub fn check_all(bytes: &[u8], ends: &[usize], tables: Tables, out: &mut [u32]) {
-    let [prefix, matrix, map, proof, marks, values] = tables;
-    // Each slice goes with its own length; all are lent for the call alone.
-    unsafe {
-        hutsvida_check_all(
-            bytes.as_ptr(),
-            bytes.len(),
-            ends.as_ptr(),
-            ends.len(),
-            prefix.as_mut_ptr(),
-            prefix.len(),
-            matrix.as_mut_ptr(),
-            matrix.len(),
-            map.as_mut_ptr(),
-            map.len(),
-            proof.as_mut_ptr(),
-            proof.len(),
-            marks.as_mut_ptr(),
-            marks.len(),
-            values.as_mut_ptr(),
-            values.len(),
-            out.as_mut_ptr(),
-            out.len(),
-        );
-    }
+/// The check of a FERP certificate: the word, number, file, line, the
+/// expansions and resolutions accepted, and 0.
+pub fn check_ferp(formula: &[u8], certificate: &[u8], tables: Tables) -> [u32; 7] {
+    let mut seven = [0; 7];
+    call!(hutsvida_check_ferp, [formula: u8, certificate: u8], tables, seven.as_mut_ptr() => *mut c_uint);
+    seven
+}
+
+/// The list: files one after the other in `bytes`, two ends for each check,
+/// and the kind of each; seven fields for each into `out`, as far as it goes.
+/// They are zeros, and nothing is checked, where the kind is missing or is
+/// neither `FERAT` nor `FERP`.
+pub fn check_all(bytes: &[u8], ends: &[usize], kinds: &[u32], tables: Tables, out: &mut [u32]) {
+    call!(hutsvida_check_all, [bytes: u8, ends: usize, kinds: c_uint], tables,
+        out.as_mut_ptr() => *mut c_uint, out.len() => usize);
 }
 
 /// The start and the end of a line in the formula (file 1) or in the

@@ -7,7 +7,7 @@ mod files;
 mod memory;
 mod streams;
 
-use hutsvida::{explain, PLACES, WORDS};
+use hutsvida::{explain, Tables, PLACES, WORDS};
 use std::ffi::{OsStr, OsString};
 use std::io::Write;
 use std::process::ExitCode;
@@ -15,17 +15,27 @@ use std::process::ExitCode;
 #[global_allocator]
 static MEMORY: memory::Memory = memory::Memory;
 
-/// A check takes about 2.2 MiB.
+/// A check takes 2.2 MiB at most.
 const STACK: usize = 16 << 20;
 
 /// What `help` says without a verb.
 const USAGE: &str = include_str!("../help/main.txt");
 
-const FERAT: &str = include_str!("../help/ferat.txt");
+/// A verb that checks pairs: the kind of their certificates, the library's
+/// call, and what `help` says of it.
+struct Check {
+    kind: u32,
+    call: fn(&[u8], &[u8], Tables) -> [u32; 7],
+    help: &'static str,
+}
+
+const FERAT: Check = Check { kind: hutsvida::FERAT, call: hutsvida::check, help: include_str!("../help/ferat.txt") };
+const FERP: Check = Check { kind: hutsvida::FERP, call: hutsvida::check_ferp, help: include_str!("../help/ferp.txt") };
 
 /// The verbs and what `help` says of each.
-const HELP: [(&str, &str); 3] = [
-    ("ferat", FERAT),
+const HELP: [(&str, &str); 4] = [
+    ("ferat", FERAT.help),
+    ("ferp", FERP.help),
     ("help", include_str!("../help/help.txt")),
     ("version", include_str!("../help/version.txt")),
 ];
@@ -37,7 +47,7 @@ struct Pair<'a> {
 }
 
 /// A verdict's line and, for a refusal, where it is and why.
-fn report(pair: &Pair, seven: &[u32; 7]) -> String {
+fn report(kind: u32, pair: &Pair, seven: &[u32; 7]) -> String {
     let accepted = seven[0] == hutsvida::ACCEPTED;
     let word = if accepted { "accepted" } else { "refused" };
     let numbers: Vec<String> = seven[1..].iter().map(u32::to_string).collect();
@@ -52,7 +62,7 @@ fn report(pair: &Pair, seven: &[u32; 7]) -> String {
         text += &format!(": {}", explain::shown_line(pair.files, file, line as usize));
     }
     text.push('\n');
-    for reason in explain::reasons(pair.files, &PLACES, seven) {
+    for reason in explain::reasons(kind, pair.files, &PLACES, seven) {
         text += &format!("    {reason}\n");
     }
     text
@@ -60,28 +70,28 @@ fn report(pair: &Pair, seven: &[u32; 7]) -> String {
 
 /// Checks the pairs one after the other in the same tables, and prints each
 /// verdict when it is known; answers whether all were accepted.
-fn check_pairs(names: &[OsString], bytes: &[Vec<u8>]) -> Result<bool, String> {
+fn check_pairs(check: &Check, names: &[OsString], bytes: &[Vec<u8>]) -> Result<bool, String> {
     let mut stores = PLACES.map(|places| vec![0; places]);
     let mut accepted = true;
     for (names, bytes) in names.chunks(2).zip(bytes.chunks(2)) {
         let pair = Pair { names: [&names[0], &names[1]], files: [&bytes[0], &bytes[1]] };
         let tables = stores.each_mut().map(|store| store.as_mut_slice());
-        let seven = hutsvida::check(pair.files[0], pair.files[1], tables);
+        let seven = (check.call)(pair.files[0], pair.files[1], tables);
         accepted &= seven[0] == hutsvida::ACCEPTED;
-        streams::print(report(&pair, &seven).as_bytes())?;
+        streams::print(report(check.kind, &pair, &seven).as_bytes())?;
     }
     Ok(accepted)
 }
 
-fn ferat(names: &[OsString]) -> Result<bool, String> {
+fn checked(check: &Check, names: &[OsString]) -> Result<bool, String> {
     if names.is_empty() || names.len() % 2 != 0 {
-        return Err(format!("files come in pairs, FORMULA CERTIFICATE, and {} were given\n{FERAT}", names.len()));
+        return Err(format!("files come in pairs, FORMULA CERTIFICATE, and {} were given\n{}", names.len(), check.help));
     }
     streams::require_output()?;
     let bytes = files::read_all(names)?;
     std::thread::scope(|scope| {
-        let check = || check_pairs(names, &bytes);
-        let thread = std::thread::Builder::new().stack_size(STACK).spawn_scoped(scope, check);
+        let run = || check_pairs(check, names, &bytes);
+        let thread = std::thread::Builder::new().stack_size(STACK).spawn_scoped(scope, run);
         let thread = thread.map_err(|error| format!("cannot start the check: {error}"))?;
         thread.join().map_err(|_| "the check was cut off".to_string())?
     })
@@ -117,7 +127,8 @@ fn run(words: &[OsString]) -> Result<bool, String> {
         return Err(format!("a verb is due\n{USAGE}"));
     };
     match verb.to_str() {
-        Some("ferat") => ferat(rest),
+        Some("ferat") => checked(&FERAT, rest),
+        Some("ferp") => checked(&FERP, rest),
         Some("help" | "--help") => help(rest),
         Some("version" | "--version") => version(rest),
         _ => Err(unknown(verb)),

@@ -3,8 +3,11 @@
 
 use crate::facts::{Facts, Part};
 use crate::text::{lines, number, told, Line};
+use crate::{FERAT, FERP};
 
 type Form = Result<(), String>;
+
+const MINUS: &str = "a minus is for literals only";
 
 /// What is wrong with a token that writes no number.
 fn wrong(token: &[u8]) -> &'static str {
@@ -21,7 +24,7 @@ fn list(tokens: &[&[u8]], at: usize, signs: bool) -> Result<usize, String> {
     for (index, token) in tokens.iter().enumerate().skip(at) {
         match number(token) {
             Some(0) => return Ok(index + 1),
-            Some(n) if n < 0 && !signs => return Err(told(tokens, index, "a minus is for literals only")),
+            Some(n) if n < 0 && !signs => return Err(told(tokens, index, MINUS)),
             Some(_) => {}
             None => return Err(told(tokens, index, wrong(token))),
         }
@@ -36,6 +39,15 @@ fn nothing_more(tokens: &[&[u8]], at: usize, last: &str) -> Form {
     Ok(())
 }
 
+/// A number that is no literal.
+fn unsigned(tokens: &[&[u8]], index: usize) -> Result<i64, String> {
+    match number(tokens[index]) {
+        None => Err(told(tokens, index, wrong(tokens[index]))),
+        Some(n) if n < 0 => Err(told(tokens, index, MINUS)),
+        Some(n) => Ok(n),
+    }
+}
+
 fn problem(tokens: &[&[u8]]) -> Form {
     match tokens.get(1) {
         Some(token) if *token == b"cnf" => {}
@@ -43,12 +55,10 @@ fn problem(tokens: &[&[u8]]) -> Form {
         None => return Err("the line ends before cnf".to_string()),
     }
     for (index, name) in [(2, "V"), (3, "C")] {
-        let token = tokens.get(index).ok_or(format!("the line ends before {name}"))?;
-        match number(token) {
-            None => return Err(told(tokens, index, wrong(token))),
-            Some(n) if n < 0 => return Err(told(tokens, index, "a minus is for literals only")),
-            Some(_) => {}
+        if index == tokens.len() {
+            return Err(format!("the line ends before {name}"));
         }
+        unsigned(tokens, index)?;
     }
     nothing_more(tokens, 4, "C")
 }
@@ -77,6 +87,24 @@ fn mapping(tokens: &[&[u8]]) -> Form {
     nothing_more(tokens, end, "the third 0")
 }
 
+/// A clause line of FERP: an index, literals, and the clause or the parents
+/// that they come from.
+fn derivation(tokens: &[&[u8]]) -> Form {
+    if unsigned(tokens, 0)? == 0 {
+        return Err(told(tokens, 0, "an index is a positive number"));
+    }
+    let origin = list(tokens, 1, true)?;
+    if origin == tokens.len() {
+        return Err("the line ends after its literals: one or two numbers and 0 are due".to_string());
+    }
+    let end = list(tokens, origin, false)?;
+    match end - origin - 1 {
+        0 => Err(told(tokens, origin, "one or two numbers are due before it")),
+        1 | 2 => nothing_more(tokens, end, "the final 0"),
+        _ => Err(told(tokens, origin + 2, "there is no third number")),
+    }
+}
+
 fn starts_list(token: &[u8]) -> bool {
     matches!(token[0], b'-' | b'+' | b'0'..=b'9')
 }
@@ -97,21 +125,48 @@ fn formula_line(tokens: &[&[u8]], before: &Facts) -> Form {
     }
 }
 
-fn certificate_line(tokens: &[&[u8]], before: &Facts) -> Form {
+fn ferat_form(tokens: &[&[u8]]) -> Form {
     match tokens[0] {
-        b"x" => mapping(tokens)?,
-        b"o" => numbers(tokens, 1, false)?,
-        b"e" | b"d" => numbers(tokens, 1, true)?,
-        token if starts_list(token) => numbers(tokens, 0, true)?,
-        _ => return Err(told(tokens, 0, "a line begins with x, o, e, d or a literal")),
+        b"x" => mapping(tokens),
+        b"o" => numbers(tokens, 1, false),
+        b"e" | b"d" => numbers(tokens, 1, true),
+        token if starts_list(token) => numbers(tokens, 0, true),
+        _ => Err(told(tokens, 0, "a line begins with x, o, e, d or a literal")),
     }
+}
+
+fn ferp_form(tokens: &[&[u8]]) -> Form {
+    match tokens[0] {
+        b"x" => mapping(tokens),
+        token if starts_list(token) => derivation(tokens),
+        _ => Err(told(tokens, 0, "a line begins with x or an index")),
+    }
+}
+
+fn certificate_form(kind: u32, tokens: &[&[u8]]) -> Form {
+    match kind {
+        FERP => ferp_form(tokens),
+        _ => ferat_form(tokens),
+    }
+}
+
+fn certificate_line(tokens: &[&[u8]], before: &Facts) -> Form {
+    certificate_form(before.kind, tokens)?;
     match (tokens[0], before.part) {
-        (b"x", Part::Hints | Part::Expansions | Part::Additions) => Err("mapping lines come before all others".to_string()),
+        (_, Part::Mapping) => Ok(()),
+        (b"x", _) => Err("mapping lines come before all others".to_string()),
         (b"o", Part::Hints) => Err("there is an o line before it".to_string()),
-        (b"o", Part::Expansions | Part::Additions) => Err("the o line comes before e lines, additions and deletions".to_string()),
+        (b"o", _) => Err("the o line comes before e lines, additions and deletions".to_string()),
         (b"e", Part::Additions) => Err("e lines come before additions and deletions".to_string()),
         _ => Ok(()),
     }
+}
+
+/// Whether a line that is not of this kind of certificate is one of the other.
+fn other_kind(kind: u32, tokens: &[&[u8]]) -> Option<String> {
+    let (other, name, verb) = if kind == FERP { (FERAT, "FERAT", "ferat") } else { (FERP, "FERP", "ferp") };
+    let mixed_up = certificate_form(kind, tokens).is_err() && certificate_form(other, tokens).is_ok();
+    mixed_up.then(|| format!("this is a line of a {name} certificate: the verb {verb} checks those"))
 }
 
 /// What the first bytes of compressed and other files are.
@@ -165,5 +220,7 @@ pub fn reasons(files: [&[u8]; 2], file: u32, start: usize, line: Option<&Line>, 
         Some(line) if file == 1 => formula_line(&line.tokens, before),
         Some(line) => certificate_line(&line.tokens, before),
     };
-    form.err().into_iter().chain(likeness(files, file, start)).collect()
+    let certificate = line.filter(|_| file != 1);
+    let other = certificate.and_then(|line| other_kind(before.kind, &line.tokens));
+    form.err().into_iter().chain(other).chain(likeness(files, file, start)).collect()
 }

@@ -44,6 +44,11 @@ pub fn lists(tokens: &[&[u8]]) -> Vec<Vec<i64>> {
     lists
 }
 
+/// The first of them: a clause's literals, a mapping line's copies.
+pub fn first_list(tokens: &[&[u8]]) -> Vec<i64> {
+    lists(tokens).into_iter().next().unwrap_or_default()
+}
+
 /// The bytes with all but printable ASCII escaped, as far as `most` go.
 pub fn shown(bytes: &[u8], most: usize) -> String {
     match bytes.get(..most) {

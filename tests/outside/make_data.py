@@ -1,18 +1,26 @@
 #!/usr/bin/env python3
-"""Makes data/: pairs NAME.qdimacs, NAME.ferat, and EXPECTED (name, verdict).
+"""Makes data/: NAME.qdimacs with NAME.ferat, NAME.ferp or both, and EXPECTED
+(certificate, verdict).
 
 Needs `cadical` (Debian package; 1.5.3 made the stored files) and, for a
 second opinion on the formulas with universals, `depqbf` if it is there.
 FERAT is made from DRAT as document 01 has it: mapping lines, an `o` line
 (or none), `e` lines for the (expanded) matrix clauses, then the DRAT lines.
+FERP is made by unfold.py from DRAT proofs whose additions are RUP.
 All dice are seeded: the same cadical makes the same files again.
+Usage: make_data.py [FOLDER]; make_data.py large FOLDER for three FERP files
+of nearly 1,048,576 bytes with their formulas.
 """
 import itertools
 import os
 import random
 import shutil
 import subprocess
+import sys
 import tempfile
+
+sys.dont_write_bytecode = True
+import unfold
 
 HERE = os.path.dirname(os.path.abspath(__file__))
 DATA = os.path.join(HERE, "data")
@@ -31,14 +39,36 @@ def store(name, formula, certificate, expected=None):
         d = sum(1 for l in certificate if l.startswith("d"))
         a = sum(1 for l in certificate if l[0] in "-0123456789")
         expected = "accepted,0,0,0,%d,%d,%d" % (e, a, d)
-    with open(os.path.join(DATA, name + ".qdimacs"), "w") as f:
-        f.write("\n".join(formula) + "\n")
+    write(name, "ferat", formula, certificate, expected)
+
+
+def write(name, ending, formula, certificate, expected):
+    """Both files, and the verdict."""
     text = "\n".join(certificate) + "\n"
     if len(text) > 1048576:
         raise SystemExit(name + " is too long")
-    with open(os.path.join(DATA, name + ".ferat"), "w") as f:
-        f.write(text)
-    EXPECTED.append("%s %s" % (name, expected))
+    for file, content in [(name + ".qdimacs", "\n".join(formula) + "\n"), (name + "." + ending, text)]:
+        with open(os.path.join(DATA, file), "w") as f:
+            f.write(content)
+    EXPECTED.append("%s.%s %s" % (name, ending, expected))
+
+
+def store_ferp(name, formula, mapping_lines, expanded, drat, style):
+    """Unfolds a DRAT proof of the expanded clauses (literals and number of
+    the matrix clause). Style 0: all expansions, then all resolutions, indexes
+    from 1. Style 1: what the end needs, each expansion before its first use.
+    Style 2: what the end needs, indexes in any order and with gaps."""
+    steps = unfold.unfold(expanded, drat)
+    if style > 0:
+        steps = unfold.needed(steps)
+    if style == 1:
+        steps = unfold.late(steps)
+    indexes = range(1, len(steps) + 1)
+    if style == 2:
+        indexes = random.Random(name).sample(range(1, 65537), len(steps))
+    e = sum(1 for _, reason in steps if len(reason) == 1)
+    expected = "accepted,0,0,0,%d,%d,0" % (e, len(steps) - e)
+    write(name, "ferp", formula, mapping_lines + unfold.lines(steps, indexes), expected)
 
 
 def qdimacs(highest, prefix, clauses):
@@ -66,12 +96,25 @@ def cadical(variables, clauses, options=()):
 
 def existential(name, variables, clauses, drat, hints=True, expected=None):
     """A purely existential formula with the identity for its mapping."""
-    everything = list(range(1, variables + 1))
-    certificate = [line(everything, "x") + " " + line(everything) + " 0"]
+    formula, certificate = identity(variables, clauses)
     if hints:
         certificate.append(line(range(1, len(clauses) + 1), "o"))
     certificate += [line(c, "e") for c in clauses] + drat
-    store(name, qdimacs(variables, [("e", everything)], clauses), certificate, expected)
+    store(name, formula, certificate, expected)
+
+
+def identity(variables, clauses):
+    """A purely existential formula, and the identity for its mapping."""
+    everything = list(range(1, variables + 1))
+    return qdimacs(variables, [("e", everything)], clauses), [line(everything, "x") + " " + line(everything) + " 0"]
+
+
+def existential_ferp(name, variables, clauses, style, options=()):
+    """The same with a FERP certificate; nothing if there is a model."""
+    drat = cadical(variables, clauses, options)
+    if drat is not None:
+        store_ferp(name, *identity(variables, clauses), list(zip(clauses, range(1, len(clauses) + 1))), drat, style)
+    return drat is not None
 
 
 def expansion(prefix, clauses):
@@ -116,19 +159,32 @@ def quantified(name, highest, prefix, clauses, hints=True, grouped=True, options
         raise SystemExit(name + ": depqbf is of another opinion")
     if drat is None:
         return False
-    groups = {}
-    for (existential_variable, annotation), copy in copies.items():
-        key = annotation if grouped else (annotation, copy)
-        groups.setdefault(key, []).append((copy, existential_variable))
-    certificate = []
-    for key, pairs in groups.items():
-        annotation = key if grouped else key[0]
-        certificate.append(line([p for p, _ in pairs], "x") + " " + line([e for _, e in pairs]) + " " + line(annotation))
+    certificate = mapping(copies, grouped)
     if hints:
         certificate.append(line([n for _, n in lines], "o"))
     certificate += [line(c, "e") for c, _ in lines] + drat
     store(name, qdimacs(highest, prefix, clauses), certificate)
     return True
+
+
+def quantified_ferp(name, highest, prefix, clauses, style, grouped=True):
+    """The same with a FERP certificate; the formula is known to be false."""
+    copies, lines = expansion(prefix, clauses)
+    drat = cadical(len(copies), [c for c, _ in lines])
+    store_ferp(name, qdimacs(highest, prefix, clauses), mapping(copies, grouped), lines, drat, style)
+
+
+def mapping(copies, grouped):
+    """Mapping lines, one for each annotation or one for each copy."""
+    groups = {}
+    for (existential_variable, annotation), copy in copies.items():
+        key = annotation if grouped else (annotation, copy)
+        groups.setdefault(key, []).append((copy, existential_variable))
+    found = []
+    for key, pairs in groups.items():
+        annotation = key if grouped else key[0]
+        found.append(line([p for p, _ in pairs], "x") + " " + line([e for _, e in pairs]) + " " + line(annotation))
+    return found
 
 
 def depqbf(formula):
@@ -148,14 +204,17 @@ def depqbf(formula):
 
 # ------------------------------------------------------------- published
 
-def published():
-    store("figure-2", """p cnf 3 3
+FIGURE_2 = """p cnf 3 3
 e 1 0
 a 2 0
 e 3 0
 1 2 3 0
 -1 -2 3 0
--3 0""".split("\n"), """x 1 0 1 0 0
+-3 0""".split("\n")
+
+
+def published():
+    store("figure-2", FIGURE_2, """x 1 0 1 0 0
 x 2 0 3 0 2 0
 x 3 0 3 0 -2 0
 o 1 2 3 3 0
@@ -164,6 +223,17 @@ e -1 2 0
 e -3 0
 e -2 0
 0""".split("\n"))
+    # The same formula with the certificate of figure 2 of source document 001.
+    write("figure-2", "ferp", FIGURE_2, """x 1 0 1 0 0
+x 2 0 3 0 2 0
+x 3 0 3 0 -2 0
+1 1 3 0 1 0
+2 -1 2 0 2 0
+3 -3 0 3 0
+4 -2 0 3 0
+5 2 3 0 1 2 0
+6 2 0 5 3 0
+7 0 6 4 0""".split("\n"), "accepted,0,0,0,4,3,0")
     # Figure 3.3 of source document 002, which is the example of the
     # DRAT-trim paper: the formula, a DRAT proof, the same with deletions.
     four = [[1, 2, -3], [-1, -2, 3], [2, 3, -4], [-2, -3, 4], [-1, -3, -4], [1, 3, 4], [-1, 2, 4], [1, -2, -4]]
@@ -309,18 +379,22 @@ def random_qbf(seed, universals, existentials, count):
     return universals + existentials, prefix, clauses
 
 
-def main():
-    os.makedirs(DATA, exist_ok=True)
-    for name in os.listdir(DATA):
-        os.remove(os.path.join(DATA, name))
-    published()
+def pigeon_formula(holes):
+    p = {(i, j): (i - 1) * holes + j for i in range(1, holes + 2) for j in range(1, holes + 1)}
+    return holes * (holes + 1), pigeons(p, holes)
+
+
+def make_pigeons():
     for holes in range(2, 8):
         existential("cook-%d" % holes, *cook(holes), hints=holes % 2 == 0)
     for holes in range(3, 8):
-        variables = holes * (holes + 1)
-        p = {(i, j): (i - 1) * holes + j for i in range(1, holes + 2) for j in range(1, holes + 1)}
-        clauses = pigeons(p, holes)
+        variables, clauses = pigeon_formula(holes)
         existential("pigeons-%d" % holes, variables, clauses, cadical(variables, clauses))
+    for holes in range(3, 6):
+        assert existential_ferp("pigeons-%d" % holes, *pigeon_formula(holes), style=holes % 3)
+
+
+def make_random():
     made = 0
     for seed in itertools.count(1):
         variables, ratio = [(20, 5.5), (30, 5.5), (40, 5.5), (50, 5), (60, 5), (80, 5), (100, 5), (120, 4.7), (150, 4.7)][made]
@@ -329,23 +403,56 @@ def main():
         drat = cadical(variables, clauses, options)
         if drat is not None:
             existential("random-%d" % variables, variables, clauses, drat, hints=made % 2 == 0)
+            if variables <= 100:
+                existential_ferp("random-%d" % variables, variables, clauses, made % 3, [("--plain",), ()][made % 2])
             made += 1
             if made == 9:
                 break
+
+
+def make_quantified():
     for n in [2, 3, 5, 8, 12, 20, 40]:
         assert quantified("qparity-%d" % n, *qparity(n), hints=n != 8, grouped=n != 5)
+        quantified_ferp("qparity-%d" % n, *qparity(n), style=n % 3, grouped=n != 8)
     for n in [1, 2, 3, 4]:
         assert quantified("equality-%d" % n, *equality(n), hints=n % 2 == 0)
+        quantified_ferp("equality-%d" % n, *equality(n), style=n % 3)
     made = 0
     for seed in itertools.count(1):
         universals, existentials, count = [(2, 8, 28), (3, 10, 36), (3, 14, 50), (4, 12, 44), (5, 12, 40), (4, 18, 70)][made % 6]
-        if quantified("random-qbf-%d" % (made + 1), *random_qbf(seed, universals, existentials, count),
-                      hints=made % 3 > 0, grouped=made % 2 == 0):
+        formula = random_qbf(seed, universals, existentials, count)
+        name = "random-qbf-%d" % (made + 1)
+        if quantified(name, *formula, hints=made % 3 > 0, grouped=made % 2 == 0):
+            quantified_ferp(name, *formula, style=made % 3, grouped=made % 2 == 1)
             made += 1
             if made == 12:
                 break
+
+
+def make_stored():
+    os.makedirs(DATA, exist_ok=True)
+    for name in os.listdir(DATA):
+        os.remove(os.path.join(DATA, name))
+    published()
+    make_pigeons()
+    make_random()
+    make_quantified()
     with open(os.path.join(DATA, "EXPECTED"), "w") as f:
         f.write("\n".join(EXPECTED) + "\n")
 
 
-main()
+def make_large():
+    """Random formulas whose unfolded proofs are nearly as long as they may be."""
+    os.makedirs(DATA, exist_ok=True)
+    for variables, seed in [(120, 803), (140, 2), (160, 230)]:
+        assert existential_ferp("large-%d" % variables, variables, random_3sat(seed, variables, 5), 1, ("--plain",))
+    print("\n".join(EXPECTED))
+
+
+if __name__ == "__main__":
+    if sys.argv[1:2] == ["large"] and len(sys.argv) == 3:
+        DATA = sys.argv[2]
+        make_large()
+    else:
+        DATA = sys.argv[1] if len(sys.argv) > 1 else DATA
+        make_stored()

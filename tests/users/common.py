@@ -12,6 +12,8 @@ PROGRAM = os.path.join(ROOT, "target/command/release/hutsvida")
 A = "p cnf 2 2\na 1 0\ne 2 0\n1 2 0\n1 -2 0\n"
 PROOF = "x 1 0 2 0 -1 0\no 1 2 0\ne 1 0\ne -1 0\n0\n"
 ACCEPTED = "accepted,0,0,0,2,1,0\n"
+# the same refutation in FERP, with the same verdict
+RESOLUTION = "x 1 0 2 0 -1 0\n1 1 0 1 0\n2 -1 0 2 0\n3 0 1 2 0\n"
 
 
 def text_of(path):
@@ -41,9 +43,9 @@ class Case(unittest.TestCase):
         out = done.stdout.decode() if done.stdout is not None else None
         return done.returncode, out, done.stderr.decode()
 
-    def check(self, formula, certificate):
-        """Status and output of `ferat` on two files `f` and `c`."""
+    def check(self, formula, certificate, verb="ferat"):
+        """Status and output of a verb on two files `f` and `c`."""
         names = [self.write("f", formula), self.write("c", certificate)]
-        status, out, err = self.run_in([PROGRAM, "ferat", *names])
+        status, out, err = self.run_in([PROGRAM, verb, *names])
         self.assertEqual(err, "")
         return status, out

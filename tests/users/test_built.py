@@ -99,7 +99,7 @@ class Built(Case):
             self.assertEqual(len(file.readlines()), 3)
 
     def test_help_before_any_build(self):
-        for words, status in [(["help"], 0), (["--help"], 0), (["help", "ferat"], 0), ([], 2)]:
+        for words, status in [(["help"], 0), (["--help"], 0), (["help", "ferat"], 0), (["help", "ferp"], 0), ([], 2)]:
             found, out, err, calls = self.hutsvida(*words)
             self.assertEqual((found, calls), (status, []))
             self.assertTrue((out + err).startswith("usage: hutsvida "))

@@ -3,7 +3,7 @@ import os
 import subprocess
 import unittest
 
-from common import A, ACCEPTED, COMMAND, PROGRAM, PROOF, ROOT, Case
+from common import A, ACCEPTED, COMMAND, PROGRAM, PROOF, RESOLUTION, ROOT, Case
 
 # Without an `o` line, an `e` line of 500,000 literals is compared with each of 8,192 clauses, and fails at the last copy's annotation.
 SLOW = "p cnf 2 8192\na 1 0\ne 2 0\n" + "1 2 0\n" * 8192
@@ -12,10 +12,10 @@ SLOW_PROOF = "x 1 0 2 0 -1 0\nx 2 0 2 0 0\ne " + "1 " * 500_000 + "2 0\n"
 
 class Verbs(Case):
     def test_help_and_version(self):
-        for words in [["help"], ["--help"], ["help", "ferat"], ["help", "help"], ["help", "version"], ["--help", "ferat"]]:
+        for words in [["help"], ["--help"], ["help", "ferat"], ["help", "ferp"], ["help", "help"], ["help", "version"], ["--help", "ferp"]]:
             status, out, err = self.run_in([COMMAND, *words])
             self.assertEqual((status, err), (0, ""))
-            self.assertTrue(out.startswith("usage: hutsvida "), out)
+            self.assertTrue(out.startswith(f"usage: hutsvida {(words[1:] or ['VERB'])[0]}"), out)
         for words in [["version"], ["--version"]]:
             status, out, err = self.run_in([COMMAND, *words])
             self.assertEqual((status, err), (0, ""))
@@ -37,20 +37,31 @@ class Verbs(Case):
 
     def test_wrong_usage(self):
         f, c = self.write("f", A), self.write("c", PROOF)
-        wrong = [[], ["ferat"], ["ferat", f], ["ferat", f, c, f], ["ferat", "--help"], [f, c], ["help", "x"], ["help", "ferat", "x"], ["version", "x"]]
-        for words in wrong:
+        wrong = [[], [f, c], ["help", "x"], ["help", "ferat", "x"], ["version", "x"], ["FERP", f, c]]
+        for words in wrong + [[verb, *names] for verb in ["ferat", "ferp"] for names in [[], [f], [f, c, f], ["--help"]]]:
             status, out, err = self.run_in([COMMAND, *words])
             with self.subTest(words):
                 self.assertEqual((status, out), (2, ""))
                 self.assertGreater(len(err), 20)
+                if words and words[0] in ["ferat", "ferp"]:
+                    self.assertIn(f"usage: hutsvida {words[0]} FORMULA CERTIFICATE", err)
+
+    def test_each_verb_checks_its_kind(self):
+        """A list with a certificate of either kind: the other one is malformed, and the list goes on."""
+        f, ferat, ferp = self.write("f", A), self.write("c.ferat", PROOF), self.write("c.ferp", RESOLUTION)
+        for verb, own, other in [("ferat", ferat, ferp), ("ferp", ferp, ferat)]:
+            self.assertEqual(self.run_in([COMMAND, verb, f, own, f, own]), (0, ACCEPTED * 2, ""))
+            status, out, err = self.run_in([COMMAND, verb, f, own, f, other, f, own])
+            verdicts = [line for line in out.splitlines(True) if not line.startswith(" ")]
+            self.assertEqual((status, verdicts, err), (1, [ACCEPTED, "refused,2,2,2,0,0,0\n", ACCEPTED], ""))
 
 
 class Streams(Case):
     def test_standard_input(self):
-        f, c = self.write("f", A), self.write("c", PROOF)
+        f, c, ferp = self.write("f", A), self.write("c", PROOF), self.write("c.ferp", RESOLUTION)
         self.write("-", "neither")
-        for words, data in [(["-", c], A), ([f, "-"], PROOF)]:
-            done = subprocess.run([COMMAND, "ferat", *words], cwd=self.folder, input=data.encode(), capture_output=True, check=False)
+        for words, data in [(["ferat", "-", c], A), (["ferat", f, "-"], PROOF), (["ferp", "-", ferp], A), (["ferp", f, "-"], RESOLUTION)]:
+            done = subprocess.run([COMMAND, *words], cwd=self.folder, input=data.encode(), capture_output=True, check=False)
             self.assertEqual((done.returncode, done.stdout.decode()), (0, ACCEPTED))
         done = subprocess.run([COMMAND, "ferat", f, "-"], cwd=self.folder, input=b"5", capture_output=True, check=False)
         self.assertEqual(done.stdout.decode(), "refused,2,2,1,0,0,0\n  -:1: malformed: 5\n    the line ends without its 0\n")

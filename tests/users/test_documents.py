@@ -44,26 +44,33 @@ class Numbers(Case):
         full = table(text_of("docs/FORMAT.md"), "| Number | Word | When | Line |")
         short = table(text_of("README.md"), "| Number | Word | When |")
         words = re.findall(r'^    "([a-z ]+)",$', text_of("command/src/lib.rs"), re.M)
-        self.assertEqual([row[:2] for row in full], [[str(number), words[number]] for number in range(1, 16)])
+        self.assertEqual([row[:2] for row in full], [[str(number), words[number]] for number in range(1, 18)])
         self.assertEqual([row[:2] for row in short], [row[:2] for row in full])
-        self.assertEqual([row[2] for row in short][:-1], [row[2] for row in full][:-1])
+        # README says more of 15
+        self.assertEqual([row[2] for row in short if row[0] != "15"], [row[2] for row in full if row[0] != "15"])
 
-    def test_pairs(self):
-        """FORMAT.md's small pairs, with and without a last byte 10, and the words printed."""
+    def assert_pairs(self, verb, header, expected):
+        """A table of small pairs, with and without a last byte 10: the verdicts, the words printed, and the numbers met."""
         text = text_of("docs/FORMAT.md")
         words = {row[0]: row[1] for row in table(text, "| Number | Word | When | Line |")}
         numbers = set()
-        for row in table(text, "| Formula | Certificate | Verdict |"):
+        for row in table(text, header):
             formula, certificate, verdict = [cell.strip("`").replace(" / ", "\n") for cell in row]
             for end in ["", "\n"]:
-                _, out = self.check(formula + end, certificate + end)
+                _, out = self.check(formula + end, certificate + end, verb)
                 first, *rest = out.splitlines()
-                self.assertEqual(first, verdict)
+                self.assertEqual(first, verdict, row)
                 number = verdict.split(",")[1]
                 numbers.add(int(number))
                 if rest:
                     self.assertRegex(rest[0], rf"\A  [fc]:\d+: {words[number]}")
-        self.assertEqual(numbers, {0, *range(2, 15)})
+        self.assertEqual(numbers, expected)
+
+    def test_pairs(self):
+        self.assert_pairs("ferat", "| Formula | Certificate | Verdict |", {0, *range(2, 15)})
+
+    def test_ferp_pairs(self):
+        self.assert_pairs("ferp", "| Formula | FERP certificate | Verdict |", {0, 2, 3, 5, 7, 8, 9, 11, 14, 16, 17})
 
 
 class Readme(Case):
@@ -83,6 +90,18 @@ class Readme(Case):
         same = lambda text: re.sub(r"(accepted,0,0,0,\d+),.*", r"\1", text)
         self.assertEqual([same(part) for part in out.split("-----\n")], [same(part) for part in expected] + [""], err)
         self.assertEqual(files_of_checkout(), before)
+
+    def test_calls(self):
+        """Each call that README names is declared: in the header, in the package, in its crate."""
+        header, package = text_of("c/hutsvida.h"), text_of("command/src/lib.rs")
+        rows = table(text_of("README.md"), "| Call | C and C++ | Rust | Rattle |")
+        self.assertEqual(sorted(row[1].strip("`") for row in rows), sorted(re.findall(r"^void (\w+)\(", header, re.M)))
+        self.assertEqual(sorted(row[2].strip("`") for row in rows), sorted(re.findall(r"^pub fn (\w+)\(", package, re.M)))
+        for row in rows:
+            crate, name = row[3].strip("`").split("::")
+            sources = os.path.join(ROOT, "crates", crate, "src")
+            found = [re.search(rf"^pub fn {name}\b", text_of(os.path.join(sources, file)), re.M) for file in os.listdir(sources)]
+            self.assertTrue(any(found), row)
 
     def test_rust_package(self):
         """The package that README shows, built against the checkout."""

@@ -3,10 +3,13 @@ import gzip
 import lzma
 import unittest
 
-from common import A, ACCEPTED, PROOF, Case
+from common import A, ACCEPTED, PROOF, RESOLUTION, Case
 
 MAP = "x 1 0 2 0 -1 0\n"
 LONG = "1 " * 300_000
+
+IN_FERAT = "    this is a line of a FERAT certificate: the verb ferat checks those\n"
+IN_FERP = "    this is a line of a FERP certificate: the verb ferp checks those\n"
 
 # Formula, certificate, what is printed.
 REFUSALS = [
@@ -42,6 +45,9 @@ REFUSALS = [
     (A, "o 0\n" + MAP, "refused,2,2,2,0,0,0\n  c:2: malformed: x 1 0 2 0 -1 0\n    mapping lines come before all others\n"),
     (A, MAP + "e 1 0\no 0\n", "refused,2,2,3,1,0,0\n  c:3: malformed: o 0\n    the o line comes before e lines, additions and deletions\n"),
     (A, "5 0\ne 1 0\n", "refused,2,2,2,0,1,0\n  c:2: malformed: e 1 0\n    e lines come before additions and deletions\n"),
+    # 2: the other kind of certificate
+    (A, RESOLUTION, "refused,2,2,2,0,0,0\n  c:2: malformed: 1 1 0 1 0\n    token 4, 1: nothing may follow the final 0\n" + IN_FERP),
+    (A, MAP + "7 0 5 6 0\n", "refused,2,2,2,0,0,0\n  c:2: malformed: 7 0 5 6 0\n    token 3, 5: nothing may follow the final 0\n" + IN_FERP),
     # 2: what the file looks like
     (gzip.compress(A.encode(), mtime=0), PROOF, "the file looks compressed (gzip)"),
     (A, lzma.compress(PROOF.encode()), "the file looks compressed (xz)"),
@@ -87,11 +93,79 @@ REFUSALS = [
 ]
 
 
+# The same for FERP: what its lines add, and once for each number that both kinds have.
+EXPANDED = MAP + "1 1 0 1 0\n"
+CLAUSES = "p cnf 3 3\ne 1 2 3 0\n1 2 0\n-1 3 0\n1 -2 0\n"
+LINES = "x 1 2 3 0 1 2 3 0 0\n10 1 2 0 1 0\n20 -1 3 0 2 0\n30 1 -2 0 3 0\n"
+NO_CLASH = "    they have no resolvent: neither has the negation of a literal of the other\n"
+
+FERP_REFUSALS = [
+    (A, "c" * 1_048_577, "refused,1,2,0,0,0,0\n  c:0: overlong\n    a file may have at most 1048576 bytes\n"),
+    # 2: which token
+    ("p cnf 1 -1\n", "", "refused,2,1,1,0,0,0\n  f:1: malformed: p cnf 1 -1\n    token 4, -1: a minus is for literals only\n"),
+    (A, "q 1 0\n", "refused,2,2,1,0,0,0\n  c:1: malformed: q 1 0\n    token 1, q: a line begins with x or an index\n"),
+    (A, "x 1 2 0 2 0 0\n", "refused,2,2,1,0,0,0\n  c:1: malformed: x 1 2 0 2 0 0\n    the lists of copies (2) and of existentials (1) must be equally long\n"),
+    (A, MAP + "-1 1 0 1 0\n", "refused,2,2,2,0,0,0\n  c:2: malformed: -1 1 0 1 0\n    token 1, -1: a minus is for literals only\n"),
+    (A, MAP + "0 1 0 1 0\n", "refused,2,2,2,0,0,0\n  c:2: malformed: 0 1 0 1 0\n    token 1, 0: an index is a positive number\n"),
+    (A, MAP + "01 1 0 1 0\n", "refused,2,2,2,0,0,0\n  c:2: malformed: 01 1 0 1 0\n    token 1, 01: a number does not begin with 0\n"),
+    (A, MAP + "1x 1 0 1 0\n", "refused,2,2,2,0,0,0\n  c:2: malformed: 1x 1 0 1 0\n    token 1, 1x: a number is due\n"),
+    (A, MAP + "1 +1 0 1 0\n", "refused,2,2,2,0,0,0\n  c:2: malformed: 1 +1 0 1 0\n    token 2, +1: a number has no plus\n"),
+    (A, MAP + "1 1\n", "refused,2,2,2,0,0,0\n  c:2: malformed: 1 1\n    the line ends without its 0\n"),
+    (A, MAP + "1\n", "refused,2,2,2,0,0,0\n  c:2: malformed: 1\n    the line ends without its 0\n"),
+    (A, MAP + "1 -1 0 0\n", "refused,2,2,2,0,0,0\n  c:2: malformed: 1 -1 0 0\n    token 4, 0: one or two numbers are due before it\n"),
+    (A, MAP + "1 1 0 1\n", "refused,2,2,2,0,0,0\n  c:2: malformed: 1 1 0 1\n    the line ends without its 0\n"),
+    (A, MAP + "1 1 0 -1 0\n", "refused,2,2,2,0,0,0\n  c:2: malformed: 1 1 0 -1 0\n    token 4, -1: a minus is for literals only\n"),
+    (A, MAP + "1 1 0 1 2 1 0\n", "refused,2,2,2,0,0,0\n  c:2: malformed: 1 1 0 1 2 1 0\n    token 6, 1: there is no third number\n"),
+    (A, MAP + "1 1 0 1 0 0\n", "refused,2,2,2,0,0,0\n  c:2: malformed: 1 1 0 1 0 0\n    token 6, 0: nothing may follow the final 0\n"),
+    (A, EXPANDED + MAP, "refused,2,2,3,1,0,0\n  c:3: malformed: x 1 0 2 0 -1 0\n    mapping lines come before all others\n"),
+    # 2: the other kind of certificate
+    (A, PROOF, "refused,2,2,2,0,0,0\n  c:2: malformed: o 1 2 0\n    token 1, o: a line begins with x or an index\n" + IN_FERAT),
+    (A, MAP + "e 1 0\n", "refused,2,2,2,0,0,0\n  c:2: malformed: e 1 0\n    token 1, e: a line begins with x or an index\n" + IN_FERAT),
+    (A, EXPANDED + "d 1 0\n", "refused,2,2,3,1,0,0\n  c:3: malformed: d 1 0\n    token 1, d: a line begins with x or an index\n" + IN_FERAT),
+    (A, "1 2 0\n", "refused,2,2,1,0,0,0\n  c:1: malformed: 1 2 0\n    the line ends after its literals: one or two numbers and 0 are due\n" + IN_FERAT),
+    (A, "-1 2 0\n", "refused,2,2,1,0,0,0\n  c:1: malformed: -1 2 0\n    token 1, -1: a minus is for literals only\n" + IN_FERAT),
+    (A, "0\n", "refused,2,2,1,0,0,0\n  c:1: malformed: 0\n    token 1, 0: an index is a positive number\n" + IN_FERAT),
+    # 2: what the file looks like
+    (A, gzip.compress(RESOLUTION.encode(), mtime=0), "the file looks compressed (gzip)"),
+    (RESOLUTION, A, "the second file begins like a formula: the formula comes first, then the certificate"),
+    # 3: which limit
+    ("p cnf 4097 0\n", "", "refused,3,1,1,0,0,0\n  f:1: out of range: p cnf 4097 0\n    token 3, 4097: V is at most 4096\n"),
+    (A, "x 1 0 3 0 -1 0\n", "refused,3,2,1,0,0,0\n  c:1: out of range: x 1 0 3 0 -1 0\n    token 4, 3: the formula's V is 2\n"),
+    (A, MAP + "65537 1 0 1 0\n", "refused,3,2,2,0,0,0\n  c:2: out of range: 65537 1 0 1 0\n    token 1, 65537: an index is at most 65536\n"),
+    (A, MAP + "1 16384 -16385 0 1 0\n", "refused,3,2,2,0,0,0\n  c:2: out of range: 1 16384 -16385 0 1 0\n    token 3, -16385: a copy is at most 16384\n"),
+    (A, MAP + "65536 1 0 3 0\n", "refused,3,2,2,0,0,0\n  c:2: out of range: 65536 1 0 3 0\n    token 4, 3: the formula's C is 2\n"),
+    (A, MAP + "1 1 0 65536 65537 0\n", "refused,3,2,2,0,0,0\n  c:2: out of range: 1 1 0 65536 65537 0\n    token 5, 65537: an index is at most 65536\n"),
+    # 4 to 8
+    ("p cnf 2 0\ne 2 2 0\n", "", "refused,4,1,2,0,0,0\n  f:2: bound twice: e 2 2 0\n    variable 2 is in the prefix already\n"),
+    ("p cnf 2 1\ne 1 0\n1 -2 0\n", "", "refused,5,1,3,0,0,0\n  f:3: unbound: 1 -2 0\n    variable 2 is not in the prefix\n"),
+    ("p cnf 1 3\ne 1 0\n1 0\n-1 0\n", "", "refused,6,1,0,0,0,0\n  f:0: wrong clause count\n    there are 2 clause lines, and the formula's C is 3\n"),
+    (A, MAP + MAP, "refused,7,2,2,0,0,0\n  c:2: mapped twice: x 1 0 2 0 -1 0\n    copy 1 is mapped in line 1\n"),
+    (A, "x 1 0 1 0 0\n", "refused,8,2,1,0,0,0\n  c:1: bad annotation: x 1 0 1 0 0\n    variable 1 is not existential\n"),
+    # 9, 11, 14
+    (A, MAP + "1 1 -7 0 1 0\n", "refused,9,2,2,0,0,0\n  c:2: unmapped: 1 1 -7 0 1 0\n    copy 7 is in no mapping line\n"),
+    (A, MAP + "9 1 0 2 0\n", "refused,11,2,2,0,0,0\n  c:2: no expansion: 9 1 0 2 0\n    clause 2 (line 5 of the formula) has no such expansion: 1 -2 0\n"),
+    (A, EXPANDED, "refused,14,2,0,1,0,0\n  c:0: not closed\n    the certificate derives no empty clause\n"),
+    # 16: a missing parent
+    (CLAUSES, LINES + "40 1 0 10 50 0\n", "refused,16,2,5,3,0,0\n  c:5: bad parent: 40 1 0 10 50 0\n    10 is the index of line 2, the clause 1 2 0\n    no line before it has the index 50\n"),
+    (CLAUSES, LINES + "40 1 0 50 50 0\n", "refused,16,2,5,3,0,0\n  c:5: bad parent: 40 1 0 50 50 0\n    no line before it has the index 50\n"),
+    (CLAUSES, LINES + "40 1 0 40 30 0\n", "refused,16,2,5,3,0,0\n  c:5: bad parent: 40 1 0 40 30 0\n    40 is the line's own index, and its parents come before it\n    30 is the index of line 4, the clause 1 -2 0\n"),
+    # 16: no resolvent
+    (CLAUSES, LINES + "40 2 3 0 30 10 0\n", "refused,16,2,5,3,0,0\n  c:5: bad parent: 40 2 3 0 30 10 0\n    30 is the index of line 4, the clause 1 -2 0\n    10 is the index of line 2, the clause 1 2 0\n    their resolvent on copy 2 has no 2\n    their resolvent on copy 2 has 1 too\n"),
+    (CLAUSES, LINES + "40 1 3 2 0 10 20 0\n", "refused,16,2,5,3,0,0\n  c:5: bad parent: 40 1 3 2 0 10 20 0\n    10 is the index of line 2, the clause 1 2 0\n    20 is the index of line 3, the clause -1 3 0\n    their resolvent on copy 1 has no 1\n"),
+    (CLAUSES, LINES + "40 2 0 20 10 0\n", "refused,16,2,5,3,0,0\n  c:5: bad parent: 40 2 0 20 10 0\n    20 is the index of line 3, the clause -1 3 0\n    10 is the index of line 2, the clause 1 2 0\n    their resolvent on copy 1 has 3 too\n"),
+    (CLAUSES, LINES + "40 1 2 0 10 10 0\n", "refused,16,2,5,3,0,0\n  c:5: bad parent: 40 1 2 0 10 10 0\n    10 is the index of line 2, the clause 1 2 0\n" + NO_CLASH),
+    (CLAUSES, LINES + "40 1 0 10 30 0\n50 1 3 0 40 40 0\n", "refused,16,2,6,3,1,0\n  c:6: bad parent: 50 1 3 0 40 40 0\n    40 is the index of line 5, the clause 1 0\n" + NO_CLASH),
+    # 17
+    (CLAUSES, LINES + "20 3 0 10 50 0\n", "refused,17,2,5,3,0,0\n  c:5: index used: 20 3 0 10 50 0\n    20 is the index of line 3\n"),
+]
+
+
 class Messages(Case):
-    def test_refusals(self):
+    def assert_told(self, verb, refusals):
+        """What the verb prints; answers the numbers met."""
         numbers = set()
-        for formula, certificate, expected in REFUSALS:
-            status, out = self.check(formula, certificate)
+        for formula, certificate, expected in refusals:
+            status, out = self.check(formula, certificate, verb)
             with self.subTest(expected):
                 self.assertEqual(status, 1)
                 if expected.startswith("refused"):
@@ -100,10 +174,17 @@ class Messages(Case):
                 else:
                     self.assertTrue(out.startswith("refused,2,"))
                     self.assertEqual(out.splitlines()[-1], "    " + expected)
-        self.assertEqual(numbers, set(range(1, 15)))
+        return numbers
+
+    def test_refusals(self):
+        self.assertEqual(self.assert_told("ferat", REFUSALS), set(range(1, 15)))
+
+    def test_ferp_refusals(self):
+        self.assertEqual(self.assert_told("ferp", FERP_REFUSALS), {*range(1, 10), 11, 14, 16, 17})
 
     def test_acceptance_has_no_message(self):
         self.assertEqual(self.check(A, PROOF), (0, ACCEPTED))
+        self.assertEqual(self.check(A, RESOLUTION, "ferp"), (0, ACCEPTED))
 
     def test_long_lines_are_cut(self):
         """A line of 600,000 bytes, and a token of 300,000."""
@@ -112,6 +193,11 @@ class Messages(Case):
         _, out = self.check(A, "7" * 300_000 + "x 0\n")
         self.assertLess(len(out), 1_000)
         self.assertEqual(out.splitlines()[2], "    token 1, " + "7" * 40 + " .. (300001 bytes in all): a number is due")
+
+    def test_long_parents_are_cut(self):
+        """A parent with 300,000 literals."""
+        _, out = self.check(A, MAP + f"1 {'1 ' * 300_000}0 1 0\n2 0 1 1 0\n", "ferp")
+        self.assertEqual(out.splitlines()[2], "    1 is the index of line 2, the clause " + "1 " * 100 + " .. (600001 bytes in all)")
 
 
 if __name__ == "__main__":

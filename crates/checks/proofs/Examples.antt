@@ -1,21 +1,33 @@
--- Ends and results that do not fit, by hand. Assumes nothing.
+-- Ends, kinds and results that do not fit, by hand. Assumes nothing.
 use mathlib.Core.Path.{_≡_, refl}
 use mathlib.Core.List.{List, [], _∷_}
+use mathlib.Core.Option.{Option, none, some}
 use Prim.Native.Nat.{ℕ}
-use Rattle.checks.specs.Runs.{ferat, Job}
-use Rattle.checks.specs.All.{part, jobsFrom, jobsOf, over}
-
-abbrev job : List ℕ → List ℕ → Job
-job f c = record { kind = ferat; formula = f; certificate = c }
+use Rattle.checks.specs.Runs.{Job, ferat, ferp}
+use Rattle.checks.specs.All.{part, jobOf, askedFrom, asked, Entry, passed, numbersIn, over}
 
 -- two checks: a certificate whose end lies below its formula's, and one whose end lies beyond the bytes; the fifth end is left alone
-clamped-ends : jobsOf (5 ∷ 6 ∷ 7 ∷ []) (2 ∷ 1 ∷ 2 ∷ 9 ∷ 9 ∷ []) ≡ job (5 ∷ 6 ∷ []) [] ∷ job [] (7 ∷ []) ∷ []
-unfolding jobsFrom part
+clamped-ends : asked (5 ∷ 6 ∷ 7 ∷ []) (2 ∷ 1 ∷ 2 ∷ 9 ∷ 9 ∷ []) (1 ∷ 2 ∷ []) ≡ some (ferat (5 ∷ 6 ∷ []) []) ∷ some (ferp [] (7 ∷ [])) ∷ []
+unfolding askedFrom jobOf part
 clamped-ends = refl
 
-no-ends : jobsOf (5 ∷ []) (1 ∷ []) ≡ []
-unfolding jobsFrom
+no-ends : asked (5 ∷ []) (1 ∷ []) (1 ∷ []) ≡ []
+unfolding askedFrom
 no-ends = refl
+
+-- numbers that name no kind, and a missing kind; a kind too many is left alone
+no-kinds : asked [] (0 ∷ 0 ∷ 0 ∷ 0 ∷ 0 ∷ 0 ∷ 0 ∷ 0 ∷ []) (0 ∷ 3 ∷ 1 ∷ []) ≡ none ∷ none ∷ some (ferat [] []) ∷ none ∷ []
+unfolding askedFrom jobOf part
+no-kinds = refl
+
+more-kinds : asked [] (0 ∷ 0 ∷ []) (2 ∷ 1 ∷ []) ≡ some (ferp [] []) ∷ []
+unfolding askedFrom jobOf part
+more-kinds = refl
+
+-- such a check has zeros for its numbers, and so no word
+zeros-written : over (1 ∷ 1 ∷ 1 ∷ 1 ∷ 1 ∷ 1 ∷ 1 ∷ 1 ∷ []) (numbersIn (passed ∷ [])) ≡ 0 ∷ 0 ∷ 0 ∷ 0 ∷ 0 ∷ 0 ∷ 0 ∷ 1 ∷ []
+unfolding over numbersIn
+zeros-written = refl
 
 -- a slice with room left, and one too short
 room-left : over (1 ∷ 2 ∷ 3 ∷ []) (7 ∷ 8 ∷ []) ≡ 7 ∷ 8 ∷ 3 ∷ []

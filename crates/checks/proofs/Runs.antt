@@ -9,31 +9,34 @@ use Rattle.rules.specs.Falsity.{FalseFile}
 use Rattle.rules.specs.declared.Verdict.the-variants.{Accepted}
 use Rattle.rules.specs.declared.Report.{Report}
 use Rattle.rules.proofs.Theorem.{accepted-false}
+use Rattle.ferp_rules.specs.Verdict.{ferpVerdict}
+use Rattle.ferp_rules.proofs.Theorem.{ferp-accepted-false}
 use Rattle.tables.specs.Tables.{Tables, lengthsOf, zeros}
 use Rattle.tables.specs.Checked.{CheckedBy}
 use Rattle.tables.proofs.Frames.{same-lengths, all-self, zeros-lengths}
-use Rattle.checks.specs.Runs.{Kind, ferat, rulesOf, rangeOf, Job, Runs, none, more, Demanded, Each, end, and}
+use Rattle.checks.specs.Runs.{Job, ferat, ferp, rulesOf, rangeOf, formulaOf, Runs, none, more, Demanded, Each, end, and}
 
 -- what the rules of its kind say of a check in tables of these lengths
 abbrev pub reportAt : Places → Job → Report
-reportAt n j = rulesOf (j .kind) (limits n) (j .formula) (j .certificate) .report
+reportAt n j = rulesOf j (limits n) .report
 
 -- acceptance by the rules of any kind implies falsity
-sound : (k : Kind) (l : Limits) (f c : List ℕ) → rulesOf k l f c .report .verdict ≡ Accepted → FalseFile f
-unfolding verdict
-sound ferat l f c e = accepted-false l f c e
+sound : (j : Job) (l : Limits) → rulesOf j l .report .verdict ≡ Accepted → FalseFile (formulaOf j)
+unfolding verdict ferpVerdict
+sound (ferat f c) l e = accepted-false l f c e
+sound (ferp f c) l e = ferp-accepted-false l f c e
 
 -- the report of a run of one check
 single-report : {j : Job} {t u : Tables} {q : Report} → Runs (j ∷ []) t (q ∷ []) u → q ≡ reportAt (lengthsOf t) j
 single-report (more c none) = c .report
 
 -- a check in tables of the same lengths as s
-demanded : (s t u : Tables) (j : Job) (r : Report) → lengthsOf t ≡ lengthsOf s → CheckedBy (rulesOf (j .kind)) (rangeOf (j .kind)) (j .formula) (j .certificate) t r u → Demanded s j r
+demanded : (s t u : Tables) (j : Job) (r : Report) → lengthsOf t ≡ lengthsOf s → CheckedBy (rulesOf j) (rangeOf j) t r u → Demanded s j r
 demanded s t u j r e c =
     let z = zeros (lengthsOf s) in
     let k : r ≡ reportAt (lengthsOf z) j = c .report ∙ ap (λ n. reportAt n j) (e ∙ sym (zeros-lengths (lengthsOf s))) in
     record {
-      falsity = λ a. sound (j .kind) (limits (lengthsOf t)) (j .formula) (j .certificate) (ap (λ (x : Report). x .verdict) (sym (c .report)) ∙ a);
+      falsity = λ a. sound j (limits (lengthsOf t)) (ap (λ (x : Report). x .verdict) (sym (c .report)) ∙ a);
       single = λ q w g. k ∙ sym (single-report g);
       zeroed = (z, more (record { report = k; kept = all-self _ z; ranged = c .ranged }) none);
     }

@@ -4,11 +4,11 @@ use mathlib.Core.Bool.{Bool, true, false, not, cond, _||_, _&&_}
 use mathlib.Core.List.{List, [], _∷_, _++_, map, append-nil, List·Memᴰ·head, List·Memᴰ·tail, List·Memᴰ·not-nil, List·Memᴰ·append-cases, List·Memᴰ·eq-of-singleton, Memᴰ·append-left, Memᴰ·append-right}
 use Prim.Native.Nat.{ℕ, zero, suc, _+_, _-_, _/_, _%_, _<_, _≤_}
 use native.Mathlib.Omega.{arith}
-use lib.Dec.{eqb, leb}
+use lib.Dec.{eqb, leb, ltb}
 use lib.IntN.{ℤ, pos}
-use lib.ListN.{length}
-use lib.Seq.{set-out}
-use borrow.Author.Tests.{eqb-true, eqb-false, eq-eqb, leb-true, leb-false}
+use lib.ListN.{length, getD, length-append, List·getD-append}
+use lib.Seq.{set-out, getD-append-seam}
+use borrow.Author.Tests.{eqb-true, eqb-false, eq-eqb, leb-true, leb-false, ltb-true, ltb-false}
 use Rattle.cells.specs.Cells.{cellAt, listAt, Kept}
 use Rattle.cells.proofs.Laws.{at-past, at-same, at-other, kept-self, kept-set}
 use Rattle.lines.specs.Lists.{any, isEmpty}
@@ -245,3 +245,37 @@ map-append f (x ∷ xs) ys = ap (λ l. f x ∷ l) (map-append f xs ys)
 
 pub literals-more : (S : List (List ℕ)) (c : Lits) → literals (S ++ (map codeOf c ∷ [])) ≡ literals S ++ (c ∷ [])
 literals-more S c = map-append (map litOf) S (map codeOf c ∷ []) ∙ ap (λ x. literals S ++ (x ∷ [])) (lits-codes c)
+
+-- WHERE ALL STAND, the k-th standing clause is the one at place k
+pub standing-few : (t ms : List ℤ) (n : ℕ) → length (standing t ms n) ≤ n
+unfolding standing
+standing-few t ms zero = omega arith
+standing-few t ms (suc n) = go (stands t ms n) (standing-few t ms n)
+  where
+    go : (b : Bool) → length (standing t ms n) ≤ n → length (standing t ms n ++ cond b (clauseAt t ms n ∷ []) []) ≤ suc n
+    go true h = omega (arith, length-append (standing t ms n) (clauseAt t ms n ∷ []), h)
+    go false h = omega (arith, length-append (standing t ms n) [], h)
+
+pub standing-place : (t ms : List ℤ) (n : ℕ) → length (standing t ms n) ≡ n → (k : ℕ) → k < n → getD (standing t ms n) k [] ≡ clauseAt t ms k
+unfolding standing
+standing-place t ms zero e k l = absurd (omega arith)
+standing-place t ms (suc n) e k l = go (stands t ms n) e (standing-place t ms n) (standing-few t ms n)
+  where
+    go : (b : Bool) → length (standing t ms n ++ cond b (clauseAt t ms n ∷ []) []) ≡ suc n
+        → (length (standing t ms n) ≡ n → (j : ℕ) → j < n → getD (standing t ms n) j [] ≡ clauseAt t ms j) → length (standing t ms n) ≤ n
+        → getD (standing t ms n ++ cond b (clauseAt t ms n ∷ []) []) k [] ≡ clauseAt t ms k
+    go true e r f =
+        let q : length (standing t ms n) ≡ n = omega (arith, e, length-append (standing t ms n) (clauseAt t ms n ∷ [])) in
+        at q (ltb k n) refl (r q)
+      where
+        at : length (standing t ms n) ≡ n → (b : Bool) → ltb k n ≡ b → ((j : ℕ) → j < n → getD (standing t ms n) j [] ≡ clauseAt t ms j)
+            → getD (standing t ms n ++ (clauseAt t ms n ∷ [])) k [] ≡ clauseAt t ms k
+        at q true z r =
+            let i = ltb-true k n z in
+            List·getD-append (standing t ms n) (clauseAt t ms n ∷ []) [] k (omega (arith, q, i)) ∙ r k i
+        at q false z r =
+            let i = ltb-false k n z in
+            let w : k ≡ length (standing t ms n) = omega (arith, q, i, l) in
+            ap (λ j. getD (standing t ms n ++ (clauseAt t ms n ∷ [])) j []) w ∙ getD-append-seam (standing t ms n) (clauseAt t ms n) [] []
+            ∙ ap (clauseAt t ms) (let v : n ≡ k = omega (arith, q, w) in v)
+    go false e r f = absurd (omega (arith, e, f, length-append (standing t ms n) []))

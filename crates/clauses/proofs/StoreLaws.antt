@@ -34,6 +34,10 @@ module _ (s : Store) (n : ℕ) where
   marks-grown = refl
 
   -- the new clause's place
+  pub places-grown : placesOf (grown s n) ≡ placesOf s + 1
+  unfolding placesOf grown
+  places-grown = refl
+
   pub place-new : placesOf s < placesOf (grown s n)
   unfolding placesOf grown
   place-new = omega arith
@@ -55,6 +59,10 @@ module _ (s : Store) (n : ℕ) where
         go false q = let y = ltb-false (s .count) marks q in lt-leb (s .count + 1) marks (omega arith)
 
 -- AN EMPTY STORE
+pub places-marks : (s : Store) → placesOf s ≡ marksNeed s
+unfolding placesOf marksNeed
+places-marks s = refl
+
 pub places-above : (n : ℕ) → placesOf (emptyAbove n) ≡ 0
 unfolding placesOf emptyAbove
 places-above n = refl

@@ -5,6 +5,7 @@ ghost use Prim.Native.Nat.{_+_, _<_};
 ghost use Rattle.rules.specs.Basics.{isIn};
 ghost use Rattle.lists.specs.Stores.{endingAt};
 ghost use Rattle.clauses.specs.Standing.{standsIn, clauseIn, literalsIn, literalAt, next};
+ghost use Rattle.clauses.specs.Standing.{standingIn, emptyAt, hasEmpty};
 ghost use Rattle.clauses.specs.Standing.{placesOf, emptyAbove, pendingFrom, writtenAt, roomFor, stored, removed, StandsNow};
 use cells::cell;
 use cells::code;
@@ -149,4 +150,28 @@ pub fn remove(marks: &mut [i32], k: usize)
 {
     let m = cell(marks, k);
     put(marks, k, m - m % 2);
+}
+
+// Whether the clause at place k stands and is empty.
+fn empty_at(table: &[i32], marks: &[i32], k: usize) -> bool
+    ensures { λ r. ⌜ r ≡ emptyAt (now (table .entry)) (now (marks .entry)) k ⌝ }
+{
+    if stands(table, marks, k) {
+        return literal(table, clause(table, marks, k)) == 0;
+    }
+    false
+}
+
+// Whether an empty clause stands at a place below n.
+pub fn empty_stands(table: &[i32], marks: &[i32], n: usize) -> bool
+    ensures { λ r. ⌜ r ≡ hasEmpty (standingIn (table .entry) (marks .entry) n) ⌝ }
+{
+    let mut k = 0;
+    while k < n {
+        if empty_at(table, marks, k) {
+            return true;
+        }
+        k += 1;
+    }
+    false
 }

@@ -26,16 +26,17 @@ use Rattle.rules.specs.Step as rules
 use Rattle.rules.specs.Step.{refuseIn}
 use Rattle.rules.specs.CertificateLines.{State, needing, inSequence, inRange, kindRules, accept, judge}
 use Rattle.tables.specs.Tables.{Tables, tables, lengthsOf, KeptAll}
-use Rattle.tables.proofs.Frames.{all-self, all-then, below-self}
+use Rattle.tables.proofs.Frames.{all-self}
 use Rattle.tables.proofs.Rooms.{no-room}
 use Rattle.clauses.specs.Standing.{literals, proofNeed, stored, Pended}
 use Rattle.clauses.proofs.StoreLaws.{pended}
 use Rattle.propagation.proofs.HeldLaws.{held-pended}
 use Rattle.progress.specs.declared.Progress.{Progress}
 use Rattle.progress.specs.declared.Step.{Step}
-use Rattle.progress.specs.declared.Step.the-variants.{Next, Refuse}
+use Rattle.progress.specs.declared.Step.the-variants.{Refuse}
 use Rattle.progress.specs.Order.{noAdditions, limitBroken}
-use Rattle.progress.specs.Shown.{Work, needsOf, Shown, Stepped}
+use Rattle.reading.proofs.LineLaws.{stateOf, leads-later}
+use Rattle.progress.specs.Shown.{Work, needsOf, Shown, Stepped, feratRules, feratCode, answerOf}
 use Rattle.steps.specs.Judges.{kindJudge, Pending, Judges}
 use Rattle.steps.specs.Stands.{needsWith}
 use Rattle.steps.proofs.JudgeLaws.{judge-order, judge-range, judge-room, judge-rest, refused-in}
@@ -57,20 +58,6 @@ module _ (form : List Token → Option CertificateLine) (bs : List ℕ) (at : �
 -- A LINE HAS MORE BYTES THAN LITERALS
 pub count-low : {bs : List ℕ} {at s n m : ℕ} → Seen bs at s n m → n < length bs
 count-low o = let k = o .listing .further in let l = o .listing .within in omega arith
-
--- A STEP from tables that were written into before
-abbrev stateOf : rules.Step State → State
-stateOf (rules.next s) = s
-stateOf (rules.refuse n s) = s
-
-pub stepped-later : (f : Formula) (p : Progress) (n : ℕ) (t t₁ : Tables) (x : rules.Step State) (r : Step) (u : Tables) (v : Work) (m : Places)
-    → stateOf x .needs ≡ m → KeptAll m t t₁ → Stepped f p n t₁ x r u v → Stepped f p n t x r u v
-stepped-later f p n t t₁ (rules.next s) (Next q) u v m e k h =
-    (h .0, all-then (below-self (s .needs)) (subst (λ i. KeptAll i t t₁) (sym e) k) (h .1), h .2)
-stepped-later f p n t t₁ (rules.next s) (Refuse i) u v m e k h = h
-stepped-later f p n t t₁ (rules.refuse j s) (Next q) u v m e k h = h
-stepped-later f p n t t₁ (rules.refuse j s) (Refuse i) u v m e k h =
-    (h .0, all-then (below-self (s .needs)) (subst (λ i. KeptAll i t t₁) (sym e) k) (h .1))
 
 -- THE KINDS: what they need, their range and their turn
 pub record ClauseKind (kind : Lits → CertificateLine) : Type 0 where
@@ -213,10 +200,10 @@ module _ {kind : Lits → CertificateLine} (kk : ClauseKind kind) (bs : List ℕ
           kept = let a = all-self (needsWith p n m) t in
               record { prefix = a .prefix; matrix = a .matrix; map = a .map; proof = there .kept; marks = a .marks; values = a .values }
 
-          ends : stateOf (kindJudge f s (kind c)) .needs ≡ needsWith p n m
+          ends : stateOf feratRules feratCode (kindJudge f s (kind c)) .needs ≡ needsWith p n m
           ends = go (kindRules f (needing s (kind c)) (kind c)) ∙ needed sh (passed .range)
             where
-              go : (o : Option ℕ) → stateOf (refuseIn (needing s (kind c)) o (rules.next (accept (needing s (kind c)) (kind c)))) .needs ≡ needing s (kind c) .needs
+              go : (o : Option ℕ) → stateOf feratRules feratCode (refuseIn (needing s (kind c)) o (rules.next (accept (needing s (kind c)) (kind c)))) .needs ≡ needing s (kind c) .needs
               go none = kk .needs (lengthsOf t) f (needing s (kind c)) c
               go (some i) = refl
 
@@ -229,7 +216,7 @@ module _ {kind : Lits → CertificateLine} (kk : ClauseKind kind) (bs : List ℕ
         clause-judged {r} {u} {v} j = record {
           steps = λ f s sh l.
               subst (λ x. Stepped f p (length bs) t x r u v) (sym (judged-line f s (rest sh)))
-              (stepped-later f p (length bs) t t₁ (kindJudge f s (kind c)) r u v (needsWith p n m) (ends sh) (kept sh)
+              (leads-later feratRules feratCode f p (length bs) t t₁ (kindJudge f s (kind c)) (answerOf r) u v (needsWith p n m) (ends sh) (kept sh)
               (subst (λ i. Stepped f p (length bs) t₁ (kindJudge f s (kind c)) r u v) (same sh)
               (j .steps c (length bs) f s (pending sh) (stored-shown sh) l (count-low seen))));
         }

@@ -6,6 +6,5 @@ pub mod MappingLaws
 pub mod KindLaws
 pub mod LineLaws
 pub mod CertificateLaws
-pub mod ReadLaws
 pub mod StartLaws
 pub mod CheckLaws

@@ -1,10 +1,9 @@
 // The certificate's lines one after the other.
-ghost use mathlib.Core.Path.{_≡_};
 ghost use Prim.Native.Nat.{_≤_};
 ghost use lib.ListN.{length};
 ghost use Rattle.tables.specs.Tables.{six};
 ghost use Rattle.progress.specs.Shown.{four};
-ghost use Rattle.ferat.specs.Certificate.{AnyLine, CertificateRead, endedBy};
+ghost use Rattle.ferat.specs.Certificate.{AnyLine, CertificateRead};
 use crate::clause_lines::addition_line;
 use crate::clause_lines::expansion_line;
 use crate::deletion_lines::deletion_line;
@@ -15,28 +14,12 @@ use crate::mapping_lines::mapping_line;
 use lines::Run;
 use mapped::Noted;
 use matrix::Starts;
-use progress::Counts;
 use progress::Progress;
 use progress::Step;
 use propagation::Watches;
+use reading::Ended;
 use trail::Falses;
 use trail::Trail;
-
-// How the reading of the certificate ends: closed, or refused with a number and a line; and the lines accepted.
-pub enum Ended {
-    Closed(Counts),
-    Refused(u32, u32, Counts),
-}
-
-// The end of the file: the number of the rule that is broken there, 0 if none is.
-fn at_end(k: u32, c: Counts) -> Ended
-    ensures { λ r. ⌜ r ≡ endedBy k c ⌝ }
-{
-    if k == 0 {
-        return Ended::Closed(c);
-    }
-    Ended::Refused(k, 0, c)
-}
 
 // One line.
 fn certificate_line(
@@ -137,7 +120,7 @@ pub fn read_certificate(
         }
         if certificate.len() <= e {
             let counts = q.counts;
-            return at_end(progress::end_broken(q, proof, marks), counts);
+            return reading::at_end(progress::end_broken(q, proof, marks), counts);
         }
         at = e + 1;
         n += 1;

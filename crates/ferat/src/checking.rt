@@ -3,18 +3,19 @@ ghost use mathlib.Core.Path.{_≡_};
 ghost use Prim.Native.Nat.{_≤_};
 ghost use lib.ListN.{length};
 ghost use Rattle.tables.specs.Tables.{six};
-ghost use Rattle.ferat.specs.Check.{begun, FormulaChecked, reportOf, refusedEarly, CheckedIn};
-use crate::certificate::Ended;
+ghost use Rattle.ferat.specs.Check.{begun, FormulaChecked, CheckedIn};
 use crate::certificate::read_certificate;
 use formula::Answer;
 use formula::Reading;
 use mapping::Mapped;
-use progress::Counts;
 use progress::Hinted;
 use progress::Progress;
 use propagation::Units;
+use reading::Counts;
+use reading::Ended;
+use reading::refused_early;
+use reading::report_of;
 use rules::Report;
-use rules::Verdict;
 use tables::BYTES;
 
 // Nothing of the certificate is read yet.
@@ -78,42 +79,6 @@ fn check_certificate(
         &mut trail,
         &mut watches,
     )
-}
-
-// The report of a certificate that is read.
-fn report_of(e: Ended) -> Report
-    ensures { λ r. ⌜ r ≡ reportOf e ⌝ }
-{
-    match e {
-        Ended::Closed(c) => Report {
-            verdict: Verdict::Accepted,
-            expansions: c.expansions,
-            additions: c.additions,
-            deletions: c.deletions,
-        },
-        Ended::Refused(number, line, c) => Report {
-            verdict: Verdict::Refused {
-                number,
-                file: 2,
-                line,
-            },
-            expansions: c.expansions,
-            additions: c.additions,
-            deletions: c.deletions,
-        },
-    }
-}
-
-// A refusal before any line of the certificate.
-fn refused_early(number: u32, file: u32, line: u32) -> Report
-    ensures { λ r. ⌜ r ≡ refusedEarly number file line ⌝ }
-{
-    Report {
-        verdict: Verdict::Refused { number, file, line },
-        expansions: 0,
-        additions: 0,
-        deletions: 0,
-    }
 }
 
 // THE CHECK of two files in six tables.

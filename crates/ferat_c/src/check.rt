@@ -1,5 +1,6 @@
-// The check, with C's calling convention.
+// The check of a FERAT certificate, with C's calling convention.
 ghost use Rattle.tables.specs.Tables.{six};
+ghost use Rattle.ferat.specs.Check.{CheckedIn};
 ghost use Rattle.ferat_c.specs.Numbers.{CheckedNumbers};
 
 // THE CHECK, its seven fields as numbers: the word as 1 (accepted) or 2 (refused), number, file, line, and the three counts.
@@ -15,7 +16,7 @@ pub extern "C" fn hutsvida_check(
     values: &mut [i32],
     seven: &mut [u32; 7],
 )
-    ensures { λ _. ⌜ CheckedNumbers (now (formula .entry)) (now (certificate .entry))
+    ensures { λ _. ⌜ CheckedNumbers (CheckedIn (now (formula .entry)) (now (certificate .entry)))
         (six (prefix .entry) (matrix .entry) (map .entry) (proof .entry) (marks .entry) (values .entry)) (now (seven .exit))
         (six (prefix .exit) (matrix .exit) (map .exit) (proof .exit) (marks .exit) (values .exit)) ⌝ }
 {

@@ -8,3 +8,4 @@ pub mod BindingLaws
 pub mod ProblemLaws
 pub mod OneLine
 pub mod FileLaws
+pub mod ShownLaws

@@ -3,7 +3,7 @@ use mathlib.Core.Path.{_≡_, refl, ap, sym, _∙_}
 use mathlib.Core.Bool.{Bool, true, false, not, cond, _&&_}
 use mathlib.Core.List.{List, [], _∷_}
 use mathlib.Core.Option.{Option, none, some}
-use Prim.Native.Nat.{ℕ, _≤_, _/_, _%_}
+use Prim.Native.Nat.{ℕ, _≤_}
 use native.Mathlib.Omega.{arith}
 use lib.ListN.{length}
 use lib.Dec.{eqb}
@@ -11,8 +11,7 @@ use borrow.Author.Tests.{eq-eqb, ne-eqb, eqb-true}
 use Rattle.lines.specs.Bytes.{classOf, bytes, sameBytes, isMinus}
 use Rattle.lines.specs.Lines.{Token, number, minus, word, tokenOf, signed, isNumber, value, readLine}
 use Rattle.lines.specs.declared.Head.{Head}
-use Rattle.lines.specs.declared.Literal.{Literal}
-use Rattle.lines.specs.Scan.{tokensFrom, headOf, literalAt}
+use Rattle.lines.specs.Scan.{tokensFrom, headOf}
 use Rattle.lines.proofs.Heads.{head-skipped, head-letter, head-other}
 use Rattle.rules.specs.Basics.{maybe}
 use Rattle.rules.specs.Formula.{Formula, forAll, exists}
@@ -20,8 +19,7 @@ use Rattle.rules.specs.Forms.{FormulaLine, clause, formulaLine, byWord, problem
 use Rattle.rules.specs.Needs.{Places}
 use Rattle.rules.specs.Step.{next, judgeBytes}
 use Rattle.formula.specs.declared.Kind.{Kind}
-use Rattle.formula.specs.declared.Natural.{Natural}
-use Rattle.formula.specs.Kinds.{letterKind, kindOf, naturalOf, naturalAt}
+use Rattle.formula.specs.Kinds.{letterKind, kindOf}
 use Rattle.formula.specs.Judged.{lineJudge, byForm, problemJudge, bindingJudge, clauseJudge}
 
 -- a word that is no number
@@ -91,21 +89,6 @@ module _ (b e : ℕ) where
 
       pub letter-none : (b ≡ 101 → ⊥) → Kind.Clause ≡ letterKind b e
       letter-none h = sym (not-pa ∙ ap (picked false false) (ne-eqb b 101 h))
-
--- NUMBERS WITHOUT A SIGN
-module _ (bs : List ℕ) (at : ℕ) where
-  pub natural-none : literalAt bs at ≡ Literal.Bad → Natural.Bad ≡ naturalAt bs at
-  unfolding naturalAt
-  natural-none p = sym (ap naturalOf p)
-
-  module _ {x e : ℕ} (p : literalAt bs at ≡ Literal.Of x e) where
-    pub natural-even : x % 2 ≡ 0 → Natural.Of (x / 2) e ≡ naturalAt bs at
-    unfolding naturalAt
-    natural-even h = sym (ap naturalOf p ∙ ap (λ t. cond t (Natural.Of (x / 2) e) Natural.Bad) (eq-eqb (x % 2) 0 h))
-
-    pub natural-odd : (x % 2 ≡ 0 → ⊥) → Natural.Bad ≡ naturalAt bs at
-    unfolding naturalAt
-    natural-odd h = sym (ap naturalOf p ∙ ap (λ t. cond t (Natural.Of (x / 2) e) Natural.Bad) (ne-eqb (x % 2) 0 h))
 
 -- WHAT THE RULES SAY OF A LINE, BY ITS KIND
 module _ (bs : List ℕ) (l : Places) (s : Option Formula) where

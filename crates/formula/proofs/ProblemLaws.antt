@@ -24,58 +24,18 @@ use Rattle.rules.specs.Forms.{FormulaLine, problem, problemForm, one, numeral, 
 use Rattle.rules.specs.Needs.{Places, formulaNeeds}
 use Rattle.rules.specs.Step.{Step, next, refuseIn, _unless_}
 use Rattle.rules.specs.FormulaLines.{judgeFormula, blank}
+use Rattle.lists.specs.declared.Natural.{Natural}
+use Rattle.lists.specs.Lists.{naturalAt}
 use Rattle.lists.specs.Stores.{puts, flat}
+use Rattle.lists.proofs.NaturalLaws.{Numeral, natural-told}
 use Rattle.lists.proofs.StoreLaws.{cells-puts, kept-puts}
 use Rattle.prefix.specs.Prefix.{markFrom, Shows}
-use Rattle.formula.specs.declared.Natural.{Natural}
 use Rattle.formula.specs.declared.State.{State}
 use Rattle.formula.specs.declared.Outcome.{Outcome}
-use Rattle.formula.specs.Kinds.{naturalOf, naturalAt}
 use Rattle.formula.specs.Holds.{Holds}
 use Rattle.formula.specs.Judged.{byForm, problemJudge, LineRead}
 use Rattle.formula.proofs.LineKinds.{word-is}
 use Rattle.formula.proofs.Steps.{accepted, read-start, start-untouched, fits-formula}
-
--- NUMBERS WITHOUT A SIGN
-module _ (bs : List ℕ) (at : ℕ) where
-  natural-told : {v e : ℕ} → naturalAt bs at ≡ Natural.Of v e → (n : ℕ) × (tokensFrom bs at ≡ number n ∷ tokensFrom bs e) × (v ≡ min cap n)
-  unfolding naturalAt
-  natural-told {v} {e} h = go (literalAt bs at) refl h
-    where
-      token : (x y : ℕ) (t : Token) → Coded t x → tokensFrom bs at ≡ t ∷ tokensFrom bs y → x % 2 ≡ 0 → (n : ℕ) × (tokensFrom bs at ≡ number n ∷ tokensFrom bs y) × (x / 2 ≡ min cap n)
-      token x y (number n) c f z = (n, f, omega arith)
-      token x y (minus n) c f z = absurd (omega (arith, c .0))
-      token x y (word w) c f z = absurd c
-
-      even : (x y : ℕ) → literalAt bs at ≡ Literal.Of x y → (t : Bool) → eqb (x % 2) 0 ≡ t → cond t (Natural.Of (x / 2) y) Natural.Bad ≡ Natural.Of v e → (n : ℕ) × (tokensFrom bs at ≡ number n ∷ tokensFrom bs e) × (v ≡ min cap n)
-      even x y p true q r =
-          let k = literal-told bs at p in
-          let i = token x y (k .token) (k .code) (k .first) (eqb-true (x % 2) 0 q) in
-          let a : x / 2 ≡ v = cc in
-          let b : y ≡ e = cc in
-          (i .0, i .1 ∙ ap (λ j. number (i .0) ∷ tokensFrom bs j) b, sym a ∙ i .2)
-      even x y p false q r = absurd (let z : _≡_ {A = ℕ} 0 1 = cc in omega arith)
-
-      go : (i : Literal) → literalAt bs at ≡ i → naturalOf i ≡ Natural.Of v e → (n : ℕ) × (tokensFrom bs at ≡ number n ∷ tokensFrom bs e) × (v ≡ min cap n)
-      go (Literal.Of x y) p r = even x y p (eqb (x % 2) 0) refl r
-      go Literal.Bad p r = absurd (let z : _≡_ {A = ℕ} 0 1 = cc in omega arith)
-
-  natural-lost : naturalAt bs at ≡ Natural.Bad → one numeral (tokensFrom bs at) ≡ none
-  unfolding naturalAt
-  natural-lost h = go (literalAt bs at) refl h
-    where
-      token : (x y : ℕ) (t : Token) → Coded t x → tokensFrom bs at ≡ t ∷ tokensFrom bs y → (x % 2 ≡ 0 → ⊥) → one numeral (tokensFrom bs at) ≡ none
-      token x y (number n) c f z = absurd (z (omega arith))
-      token x y (minus n) c f z = ap (one numeral) f
-      token x y (word w) c f z = absurd c
-
-      even : (x y : ℕ) → literalAt bs at ≡ Literal.Of x y → (t : Bool) → eqb (x % 2) 0 ≡ t → cond t (Natural.Of (x / 2) y) Natural.Bad ≡ Natural.Bad → one numeral (tokensFrom bs at) ≡ none
-      even x y p true q r = absurd (let z : _≡_ {A = ℕ} 0 1 = cc in omega arith)
-      even x y p false q r = let k = literal-told bs at p in token x y (k .token) (k .code) (k .first) (eqb-false (x % 2) 0 q)
-
-      go : (i : Literal) → literalAt bs at ≡ i → naturalOf i ≡ Natural.Bad → one numeral (tokensFrom bs at) ≡ none
-      go (Literal.Of x y) p r = even x y p (eqb (x % 2) 0) refl r
-      go Literal.Bad p r = ⊎-elim (λ e. ap (one numeral) e) (λ w. ap (one numeral) (w .2)) (literal-lost bs at p)
 
 -- THE FORM
 abbrev numbers : List Token → Option FormulaLine
@@ -140,53 +100,53 @@ module _ (bs : List ℕ) (at : ℕ) (p m : List ℤ) where
 
   module _ {e : ℕ} (h : wordIs bs at cnf ≡ Found.After e) where
     pub problem-first : naturalAt bs e ≡ Natural.Bad → LineRead (problemJudge bs at) State.Start (length bs) p m (Outcome.Refuse 2) p m
-    problem-first z = no-form (form-found bs at h ∙ ap (λ x. x >>= λ r. one numeral (r .1) >>= λ s. whole (problem (r .0) (s .0)) (s .1)) (natural-lost bs e z))
+    problem-first z = no-form (form-found bs at h ∙ ap (λ x. x >>= λ r. one numeral (r .1) >>= λ s. whole (problem (r .0) (s .0)) (s .1)) (natural-told bs e z .0))
 
     module _ {v i : ℕ} (a : naturalAt bs e ≡ Natural.Of v i) where
-      big : (n : ℕ) × (tokensFrom bs e ≡ number n ∷ tokensFrom bs i) × (v ≡ min cap n)
+      big : Numeral bs e v i
       big = natural-told bs e a
 
-      form-1 : problemForm (tokensFrom bs at) ≡ (one numeral (tokensFrom bs i) >>= λ s. whole (problem (big .0) (s .0)) (s .1))
-      form-1 = form-found bs at h ∙ ap numbers (big .1)
+      form-1 : problemForm (tokensFrom bs at) ≡ (one numeral (tokensFrom bs i) >>= λ s. whole (problem (big .value) (s .0)) (s .1))
+      form-1 = form-found bs at h ∙ ap numbers (big .first)
 
       pub problem-second : naturalAt bs i ≡ Natural.Bad → LineRead (problemJudge bs at) State.Start (length bs) p m (Outcome.Refuse 2) p m
-      problem-second z = no-form (form-1 ∙ ap (λ x. x >>= λ s. whole (problem (big .0) (s .0)) (s .1)) (natural-lost bs i z))
+      problem-second z = no-form (form-1 ∙ ap (λ x. x >>= λ s. whole (problem (big .value) (s .0)) (s .1)) (natural-told bs i z .0))
 
       module _ {c j : ℕ} (b : naturalAt bs i ≡ Natural.Of c j) where
-        many : (n : ℕ) × (tokensFrom bs i ≡ number n ∷ tokensFrom bs j) × (c ≡ min cap n)
+        many : Numeral bs i c j
         many = natural-told bs i b
 
-        form-2 : {t : Bool} → t ≡ endedAt bs j → problemForm (tokensFrom bs at) ≡ provided t (problem (big .0) (many .0))
+        form-2 : {t : Bool} → t ≡ endedAt bs j → problemForm (tokensFrom bs at) ≡ provided t (problem (big .value) (many .value))
         unfolding endedAt
         form-2 g =
-            form-1 ∙ ap (λ ts. one numeral ts >>= λ s. whole (problem (big .0) (s .0)) (s .1)) (many .1)
-            ∙ ap (λ t. provided t (problem (big .0) (many .0))) (sym g)
+            form-1 ∙ ap (λ ts. one numeral ts >>= λ s. whole (problem (big .value) (s .0)) (s .1)) (many .first)
+            ∙ ap (λ t. provided t (problem (big .value) (many .value))) (sym g)
 
         pub problem-long : {t : Bool} → t ≡ endedAt bs j → t ≡ false → LineRead (problemJudge bs at) State.Start (length bs) p m (Outcome.Refuse 2) p m
         problem-long g k = no-form (form-2 (sym k ∙ g))
 
         module _ {t : Bool} (g : t ≡ endedAt bs j) (k : t ≡ true) where
-          rules : (l : Places) → problemJudge bs at l none ≡ two (blank (big .0) (many .0)) (leb (big .0) 4096 && leb (many .0) 8192) (leb (big .0) (l .prefix) && leb 0 (l .matrix))
+          rules : (l : Places) → problemJudge bs at l none ≡ two (blank (big .value) (many .value)) (leb (big .value) 4096 && leb (many .value) 8192) (leb (big .value) (l .prefix) && leb 0 (l .matrix))
           unfolding problemJudge judgeFormula formulaNeeds
           rules l =
               ap (λ x. byForm x l none) (form-2 (sym k ∙ g))
-              ∙ ap (two (blank (big .0) (many .0)) (leb (big .0) 4096 && leb (many .0) 8192)) (fits-formula l (blank (big .0) (many .0)))
+              ∙ ap (two (blank (big .value) (many .value)) (leb (big .value) 4096 && leb (many .value) 8192)) (fits-formula l (blank (big .value) (many .value)))
 
           pub problem-high : 4096 < v → LineRead (problemJudge bs at) State.Start (length bs) p m (Outcome.Refuse 3) p m
           problem-high x = start-untouched (problemJudge bs at) (length bs) p m none (λ l o. rules l ∙
-              ap (λ y. two (blank (big .0) (many .0)) (y && leb (many .0) 8192) (leb (big .0) (l .prefix) && leb 0 (l .matrix))) (lt-leb (big .0) 4096 (omega (arith, big .2))))
+              ap (λ y. two (blank (big .value) (many .value)) (y && leb (many .value) 8192) (leb (big .value) (l .prefix) && leb 0 (l .matrix))) (lt-leb (big .value) 4096 (omega (arith, big .capped))))
 
           module _ (x : v ≤ 4096) where
-            same : big .0 ≡ v
-            same = omega (arith, big .2)
+            same : big .value ≡ v
+            same = omega (arith, big .capped)
 
             pub problem-many : 8192 < c → LineRead (problemJudge bs at) State.Start (length bs) p m (Outcome.Refuse 3) p m
             problem-many y = start-untouched (problemJudge bs at) (length bs) p m none (λ l o. rules l ∙
-                ap₂ (λ a b. two (blank (big .0) (many .0)) (a && b) (leb (big .0) (l .prefix) && leb 0 (l .matrix))) (le-leb (big .0) 4096 (omega (arith, same))) (lt-leb (many .0) 8192 (omega (arith, many .2))))
+                ap₂ (λ a b. two (blank (big .value) (many .value)) (a && b) (leb (big .value) (l .prefix) && leb 0 (l .matrix))) (le-leb (big .value) 4096 (omega (arith, same))) (lt-leb (many .value) 8192 (omega (arith, many .capped))))
 
             module _ (y : c ≤ 8192) where
-              equal : many .0 ≡ c
-              equal = omega (arith, many .2)
+              equal : many .value ≡ c
+              equal = omega (arith, many .capped)
 
               first : (l : Places) {u : Bool} → leb v (l .prefix) ≡ u → problemJudge bs at l none ≡ two (blank v c) true (u && true)
               first l z =

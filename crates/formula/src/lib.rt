@@ -3,7 +3,7 @@ ghost use mathlib.Core.Path.{_≡_};
 ghost use Prim.Native.Nat.{_+_, _≤_};
 ghost use lib.ListN.{length};
 ghost use Rattle.lines.specs.Scan.{headOf};
-ghost use Rattle.formula.specs.Kinds.{letterKind, kindOf, naturalAt};
+ghost use Rattle.formula.specs.Kinds.{letterKind, kindOf};
 ghost use Rattle.formula.specs.Tables.{Marks};
 ghost use Rattle.formula.specs.Judged.{problemJudge, bindingJudge, clauseJudge, lineJudge, Able, ReadInPrefix, ReadInBoth};
 ghost use Rattle.formula.specs.Answers.{closeOf, Whole, Answered};
@@ -14,6 +14,7 @@ use lines::Literal;
 use lines::Run;
 use lists::Clause;
 use lists::Ending;
+use lists::Natural;
 
 // Document 01's limits of V and of C.
 const HIGHEST: u32 = 4096;
@@ -144,24 +145,6 @@ fn clause_line(line: &[u8], r: Reading, prefix: &[i32], matrix: &mut [i32]) -> O
     }))
 }
 
-// The next word as a number without a sign, and the place after it.
-enum Natural {
-    Of(u32, usize),
-    Bad,
-}
-
-fn natural_at(line: &[u8], at: usize) -> Natural
-    ensures { λ r. ⌜ r ≡ naturalAt (now (line .entry)) at ⌝ }
-{
-    let Literal::Of(x, e) = lines::literal_at(line, at) else {
-        return Natural::Bad;
-    };
-    if x % 2 == 0 {
-        return Natural::Of(x / 2, e);
-    }
-    Natural::Bad
-}
-
 // The `p` line, from the place after its letter on.
 fn problem_line(line: &[u8], at: usize, prefix: &mut [i32]) -> Outcome
     ensures { λ t. ⌜ ReadInPrefix (problemJudge (now (line .entry)) at) State.Start (line .entry) (prefix .entry) t (prefix .exit) ⌝ }
@@ -169,10 +152,10 @@ fn problem_line(line: &[u8], at: usize, prefix: &mut [i32]) -> Outcome
     let Found::After(e) = lines::word_is(line, at, b"cnf") else {
         return Outcome::Refuse(2);
     };
-    let Natural::Of(v, i) = natural_at(line, e) else {
+    let Natural::Of(v, i) = lists::natural_at(line, e) else {
         return Outcome::Refuse(2);
     };
-    let Natural::Of(c, j) = natural_at(line, i) else {
+    let Natural::Of(c, j) = lists::natural_at(line, i) else {
         return Outcome::Refuse(2);
     };
     if !lines::ended(line, j) {

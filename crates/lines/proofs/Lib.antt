@@ -4,5 +4,6 @@ pub mod Classes
 pub mod Runs
 pub mod Numbers
 pub mod Words
+pub mod Walks
 pub mod Heads
 pub mod Parts

@@ -6,9 +6,9 @@ use Prim.Native.Nat.{ℕ, _+_, _*_, _-_, _<_, _≤_, min}
 use native.Mathlib.Omega.{arith}
 use lib.ListN.{length, drop, getD}
 use lib.Dec.{eqb}
-use borrow.Author.Tests.{eq-eqb, ne-eqb}
+use borrow.Author.Tests.{eq-eqb, ne-eqb, eqb-true}
 use Rattle.lines.specs.Lists.{all, isEmpty}
-use Rattle.lines.specs.Bytes.{isDigit, isMinus}
+use Rattle.lines.specs.Bytes.{classOf, rank, isDigit, isMinus}
 use Rattle.lines.specs.Lines.{isNumber, value, Token, signed}
 use Rattle.lines.specs.declared.Digits.{Digits}
 use Rattle.lines.specs.declared.Number.{Number}
@@ -20,7 +20,7 @@ use Rattle.lines.proofs.Classes.{is-held, held-is, held-not}
 pub digit-from : (b : ℕ) → isDigit b ≡ true → 48 ≤ b
 digit-from b e = is-held Digit b e .0
 
-zero-digit : isDigit 48 ≡ true
+pub zero-digit : isDigit 48 ≡ true
 zero-digit = held-is Digit 48 (omega arith, omega arith)
 
 -- a value above the cap stays above it
@@ -41,10 +41,34 @@ and-false : (t : Bool) → t && false ≡ false
 and-false true = refl
 and-false false = refl
 
+-- a digit in front
+pub on-digit : (v b : ℕ) (ds : List ℕ) {w : ℕ} → isDigit b ≡ true → w ≡ min cap (v * 10 + (b - 48)) → on v (b ∷ ds) ≡ on w ds
+unfolding on
+on-digit v b ds {w} e f =
+    ap (λ t. cond (t && all isDigit ds) (Digits.Value (min cap (value v (b ∷ ds)))) Digits.Bad) e
+    ∙ ap (λ x. cond (all isDigit ds) (Digits.Value x) Digits.Bad) (capped (v * 10 + (b - 48)) ds ∙ ap (λ x. min cap (value x ds)) (sym f))
+
+pub on-none : (v : ℕ) → v ≤ cap → Digits.Value v ≡ on v []
+unfolding on
+on-none v l = ap Digits.Value (omega arith)
+
+pub zero-alone : Digits.Value 0 ≡ digitsIn (48 ∷ [])
+unfolding digitsIn
+zero-alone = ap (λ t. cond (t && true && (not (eqb 48 48) || true)) (Digits.Value 0) Digits.Bad) (sym zero-digit)
+
+pub first-on : (b : ℕ) (ds : List ℕ) → (b ≡ 48 → ⊥) → on 0 (b ∷ ds) ≡ digitsIn (b ∷ ds)
+unfolding digitsIn on
+first-on b ds e =
+    ap (λ t. cond t (Digits.Value (min cap (value 0 (b ∷ ds)))) Digits.Bad)
+    (sym (ap (λ t. isDigit b && all isDigit ds && (not t || isEmpty ds)) (ne-eqb b 48 e) ∙ and-true (isDigit b && all isDigit ds)))
+
+first-other : (b : ℕ) (ds : List ℕ) → isDigit b ≡ false → Digits.Bad ≡ digitsIn (b ∷ ds)
+unfolding digitsIn
+first-other b ds e = sym (ap (λ t. cond (t && all isDigit ds && (not (eqb b 48) || isEmpty ds)) (Digits.Value (min cap (value 0 (b ∷ ds)))) Digits.Bad) e)
+
 module _ (bs : List ℕ) (i : ℕ) where
   pub on-past : (v : ℕ) → length bs ≤ i → v ≤ cap → Digits.Value v ≡ on v (drop i bs)
-  unfolding on
-  on-past v h l = rw (past bs i h) (ap Digits.Value (omega arith))
+  on-past v h l = rw (past bs i h) (on-none v l)
 
   pub on-stop : (v : ℕ) → i < length bs → isDigit (getD bs i 0) ≡ false → Digits.Bad ≡ on v (drop i bs)
   unfolding on
@@ -52,20 +76,14 @@ module _ (bs : List ℕ) (i : ℕ) where
       sym (ap (on v) (here bs i h) ∙ ap (λ t. cond (t && all isDigit (drop (i + 1) bs)) (Digits.Value (min cap (value v (getD bs i 0 ∷ drop (i + 1) bs)))) Digits.Bad) e)
 
   pub on-go : (v : ℕ) {w : ℕ} → i < length bs → isDigit (getD bs i 0) ≡ true → w ≡ min cap (v * 10 + (getD bs i 0 - 48)) → on v (drop i bs) ≡ on w (drop (i + 1) bs)
-  unfolding on
-  on-go v {w} h e f =
-      ap (on v) (here bs i h)
-      ∙ ap (λ t. cond (t && all isDigit (drop (i + 1) bs)) (Digits.Value (min cap (value v (getD bs i 0 ∷ drop (i + 1) bs)))) Digits.Bad) e
-      ∙ ap (λ x. cond (all isDigit (drop (i + 1) bs)) (Digits.Value x) Digits.Bad)
-      (capped (v * 10 + (getD bs i 0 - 48)) (drop (i + 1) bs) ∙ ap (λ x. min cap (value x (drop (i + 1) bs))) (sym f))
+  on-go v h e f = ap (on v) (here bs i h) ∙ on-digit v (getD bs i 0) (drop (i + 1) bs) e f
 
   pub digits-none : length bs ≤ i → Digits.Bad ≡ digitsIn (drop i bs)
   unfolding digitsIn
   digits-none h = rw (past bs i h)
 
   pub digits-zero : i < length bs → getD bs i 0 ≡ 48 → i + 1 ≡ length bs → Digits.Value 0 ≡ digitsIn (drop i bs)
-  unfolding digitsIn
-  digits-zero h e l = rw (here bs i h, e, past bs (i + 1) (omega arith)) (ap (λ t. cond (t && true && (not (eqb 48 48) || true)) (Digits.Value 0) Digits.Bad) (sym zero-digit))
+  digits-zero h e l = rw (here bs i h, e, past bs (i + 1) (omega arith)) zero-alone
 
   pub digits-led : i < length bs → getD bs i 0 ≡ 48 → (i + 1 ≡ length bs → ⊥) → Digits.Bad ≡ digitsIn (drop i bs)
   unfolding digitsIn
@@ -74,11 +92,7 @@ module _ (bs : List ℕ) (i : ℕ) where
       (ap (λ t. cond t (Digits.Value (min cap (value 0 (48 ∷ getD bs (i + 1) 0 ∷ drop (i + 1 + 1) bs)))) Digits.Bad) (sym (and-false (isDigit 48 && all isDigit (getD bs (i + 1) 0 ∷ drop (i + 1 + 1) bs)))))
 
   pub digits-on : i < length bs → (getD bs i 0 ≡ 48 → ⊥) → on 0 (drop i bs) ≡ digitsIn (drop i bs)
-  unfolding digitsIn on
-  digits-on h e =
-      rw (here bs i h)
-      (ap (λ t. cond t (Digits.Value (min cap (value 0 (getD bs i 0 ∷ drop (i + 1) bs)))) Digits.Bad)
-      (sym (ap (λ t. isDigit (getD bs i 0) && all isDigit (drop (i + 1) bs) && (not t || isEmpty (drop (i + 1) bs))) (ne-eqb (getD bs i 0) 48 e) ∙ and-true (isDigit (getD bs i 0) && all isDigit (drop (i + 1) bs)))))
+  digits-on h e = rw (here bs i h) (first-on (getD bs i 0) (drop (i + 1) bs) e)
 
 -- NUMBERS, by what the digits say
 value-of : (t : Bool) (n v : ℕ) → cond t (Digits.Value (min cap n)) Digits.Bad ≡ Digits.Value v → (t ≡ true) × (v ≡ min cap n)
@@ -148,6 +162,11 @@ module _ (w : List ℕ) {d : Digits} (h : d ≡ digitsIn w) where
         ∙ ap (λ t. cond (t && not (eqb (value 0 (drop 1 w)) 0)) (Number.Of (2 * min cap (value 0 (drop 1 w)) + 1)) Number.Bad) (q .0)
         ∙ ap (λ t. cond (not t) (Number.Of (2 * min cap (value 0 (drop 1 w)) + 1)) Number.Bad) (ne-eqb (value 0 (drop 1 w)) 0 (λ y. z (q .1 ∙ ap (min cap) y)))
         ∙ ap (λ n. Number.Of (2 * n + 1)) (sym (q .1)))
+
+-- a minus and a number other than 0
+pub number-signed : (b : ℕ) (ds : List ℕ) {v : ℕ} → isMinus b ≡ true → digitsIn ds ≡ Digits.Value v → (v ≡ 0 → ⊥) → Number.Of (2 * v + 1) ≡ numberIn (b ∷ ds)
+number-signed b ds m f z =
+    number-minus (b ∷ ds) (first-other b ds (ap (λ n. eqb n 2) (eqb-true (rank (classOf b)) 3 m))) refl m (λ l. let k = l in omega arith) refl f z
 
 -- what is read is at most the cap
 pub digits-capped : (w : List ℕ) {d : Digits} {v : ℕ} → d ≡ digitsIn w → d ≡ Digits.Value v → v ≤ cap

@@ -1,8 +1,13 @@
 // Bytes, lines, tokens and numbers of a file; the call for a line's bytes.
 ghost use mathlib.Core.Path.{_≡_};
-ghost use Prim.Native.Nat.{_+_, _*_, _-_, _<_, _≤_, min};
-ghost use lib.ListN.{drop};
-ghost use Rattle.lines.specs.Bytes.{classOf, rank, isA, sameBytes};
+ghost use mathlib.Core.Bool.{cond};
+ghost use Prim.Native.Nat.{ℕ, _+_, _*_, _-_, _<_, _≤_, min};
+ghost use lib.Dec.{eqb};
+ghost use lib.ListN.{take, drop};
+ghost use Rattle.lines.specs.declared.Digits.{Digits};
+ghost use Rattle.lines.specs.declared.Unsigned.{Unsigned};
+ghost use Rattle.lines.specs.declared.Run.the-variants.{Word};
+ghost use Rattle.lines.specs.Bytes.{classOf, rank, isA, isMinus, sameBytes};
 ghost use Rattle.lines.specs.Scan.{passes, run, digitsIn, numberIn, literalAt, endedAt, wordIs, headOf, cap};
 ghost use Rattle.lines.specs.Parts.{lineStart, fileOf, LinePart};
 
@@ -161,13 +166,79 @@ pub enum Literal {
     Bad,
 }
 
-// The next token as a literal, or as the zero that ends a list.
+// 1 for a minus, else 0: the last bit of a literal's code.
+fn sign_of(b: u8) -> u32
+    ensures { λ r. ⌜ r ≡ cond (isMinus b) 1 0 ⌝ }
+{
+    if is_a(Class::Minus, b) {
+        return 1;
+    }
+    0
+}
+
+// Whether no word goes on at a place: a blank or the end is there.
+fn word_ends(line: &[u8], at: usize) -> bool
+    ensures { λ r. ⌜ r ≡ eqb (run (passes Word) (drop at (now (line .entry)))) 0 ⌝ }
+{
+    if line.len() <= at {
+        return true;
+    }
+    is_a(Class::Blank, line[at])
+}
+
+// A number without a sign, at most the cap, and the place after it; or nothing is said of the word.
+enum Unsigned {
+    Of(u32, usize),
+    Unread,
+}
+
+// The number that the word from a place on is, in one walk over its bytes.
+fn unsigned_at(line: &[u8], from: usize) -> Unsigned
+    ensures { λ r. ⌜ ((v e : ℕ) → r ≡ Unsigned.Of v e → (e ≡ from + run (passes Word) (drop from (now (line .entry))))
+        × (digitsIn (take (e - from) (drop from (now (line .entry)))) ≡ Digits.Value v)) ⌝ }
+{
+    if line.len() <= from {
+        return Unsigned::Unread;
+    }
+    let first = line[from];
+    if first == b'0' {
+        if word_ends(line, from + 1) {
+            return Unsigned::Of(0, from + 1);
+        }
+        return Unsigned::Unread;
+    }
+    if !is_a(Class::Digit, first) {
+        return Unsigned::Unread;
+    }
+    let mut v = with_digit(0, first);
+    let mut i = from + 1;
+    while i < line.len() {
+        let b = line[i];
+        if !is_a(Class::Digit, b) {
+            if word_ends(line, i) {
+                return Unsigned::Of(v, i);
+            }
+            return Unsigned::Unread;
+        }
+        v = with_digit(v, b);
+        i += 1;
+    }
+    Unsigned::Of(v, i)
+}
+
+// The next token as a literal, or as the zero that ends a list. A well-formed number is read in one walk, any other token by `number_of`.
 pub fn literal_at(line: &[u8], at: usize) -> Literal
     ensures { λ r. ⌜ r ≡ literalAt (now (line .entry)) at ⌝ }
 {
     let s = past(line, at, Run::Blanks);
     if line.len() <= s {
         return Literal::Bad;
+    }
+    let sign = sign_of(line[s]);
+    if let Unsigned::Of(v, e) = unsigned_at(line, s + sign as usize) {
+        if sign <= v {
+            return Literal::Of(2 * v + sign, e);
+        }
     }
     let e = past(line, s, Run::Word);
     let Number::Of(x) = number_of(&line[s..e]) else {

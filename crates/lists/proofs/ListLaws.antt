@@ -85,7 +85,7 @@ literal-end (number n) e x y p = cc
 literal-end (minus n) e x y p = cc
 literal-end (word w) e x y p = absurd (let z : _≡_ {A = ℕ} 0 1 = cc in omega arith)
 
-place-read : (bs : List ℕ) (i : ℕ) {x e : ℕ} → literalAt bs i ≡ Literal.Of x e → endAt bs i ≡ e
+pub place-read : (bs : List ℕ) (i : ℕ) {x e : ℕ} → literalAt bs i ≡ Literal.Of x e → endAt bs i ≡ e
 unfolding literalAt
 place-read bs i {x} {e} p = literal-end (tokenOf (wordAt bs i)) (endAt bs i) x e p
 

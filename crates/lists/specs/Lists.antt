@@ -1,18 +1,29 @@
--- The lists of a line, as the first pass sees them. Assumes nothing.
-use mathlib.Core.Bool.{Bool, true, false}
+-- The numbers and the lists of a line, as the first pass sees them. Assumes nothing.
+use mathlib.Core.Bool.{Bool, true, false, cond}
 use mathlib.Core.List.{List, [], _∷_}
 use mathlib.Core.Option.{Option, none, some}
-use Prim.Native.Nat.{ℕ, zero, suc, min, max}
+use Prim.Native.Nat.{ℕ, zero, suc, _/_, _%_, min, max}
+use lib.Dec.{eqb}
 use lib.ListN.{length}
 use Rattle.lines.specs.Lines.{Token}
-use Rattle.lines.specs.Scan.{cap, tokensFrom, endAt}
+use Rattle.lines.specs.declared.Literal.{Literal}
+use Rattle.lines.specs.Scan.{cap, tokensFrom, endAt, literalAt}
 use Rattle.rules.specs.Basics.{greatest, maybe}
 use Rattle.rules.specs.Literals.{Lits, vars}
 use Rattle.rules.specs.Codes.{sign}
 use Rattle.rules.specs.Forms.{CertificateLine, mapping, hints, expansion, addition, deletion, upToZero, whole, literal, mappingForm, _>>=_}
+use Rattle.lists.specs.declared.Natural.{Natural}
 use Rattle.lists.specs.declared.Listed.{Listed}
 use Rattle.lists.specs.declared.Clause.{Clause}
 use Rattle.lists.specs.declared.Mapping.{Mapping}
+
+-- A NUMBER WITHOUT A SIGN
+abbrev pub naturalOf : Literal → Natural
+naturalOf (Literal.Of x e) = cond (eqb (x % 2) 0) (Natural.Of (x / 2) e) Natural.Bad
+naturalOf Literal.Bad = Natural.Bad
+
+unfoldable pub naturalAt : List ℕ → ℕ → Natural
+naturalAt bs at = naturalOf (literalAt bs at)
 
 -- the place after k words
 unfoldable pub placeAfter : ℕ → List ℕ → ℕ → ℕ

@@ -1,10 +1,28 @@
-// The lists of a line, literals up to a zero: a first pass that writes nothing, and a second that stores a list in a table.
+// The numbers and the lists of a line, literals up to a zero: a first pass that writes nothing, and a second that stores a list in a table.
 ghost use mathlib.Core.Path.{_≡_};
-ghost use Rattle.lists.specs.Lists.{listedAt, clauseAt, mappingAt};
+ghost use Rattle.lists.specs.Lists.{naturalAt, listedAt, clauseAt, mappingAt};
 ghost use Prim.Native.Nat.{_+_, min, max};
 ghost use Rattle.lists.specs.Stores.{codesAt, endingAt, puts};
 use cells::larger;
 use lines::Literal;
+
+// The next word as a number without a sign, at most the cap, and the place after it.
+pub enum Natural {
+    Of(u32, usize),
+    Bad,
+}
+
+pub fn natural_at(line: &[u8], at: usize) -> Natural
+    ensures { λ r. ⌜ r ≡ naturalAt (now (line .entry)) at ⌝ }
+{
+    let Literal::Of(x, e) = lines::literal_at(line, at) else {
+        return Natural::Bad;
+    };
+    if x % 2 == 0 {
+        return Natural::Of(x / 2, e);
+    }
+    Natural::Bad
+}
 
 // Literals up to a zero: whether one is negative (0 or 1), how many there are, the largest variable, at most the cap, and the place
 // after the zero.

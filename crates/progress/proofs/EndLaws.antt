@@ -2,9 +2,7 @@
 use mathlib.Core.Path.{_≡_, refl, ap, ap₂, sym, _∙_}
 use mathlib.Core.Bool.{Bool, true, false, not, cond}
 use mathlib.Core.List.{List}
-use mathlib.Core.Option.{Option, none, some}
 use Prim.Native.Nat.{ℕ}
-use lib.Dec.{eqb}
 use lib.IntN.{ℤ}
 use Rattle.lines.specs.Lists.{any, isEmpty}
 use Rattle.rules.specs.Formula.{Formula}
@@ -17,6 +15,7 @@ use Rattle.progress.specs.declared.Progress.{Progress}
 use Rattle.progress.specs.Order.{hintLeft}
 use Rattle.progress.specs.Shown.{Work, Shown}
 use Rattle.progress.specs.Order.{endBroken}
+use Rattle.reading.proofs.GoingLaws.{numbered}
 use Rattle.progress.proofs.OrderLaws.{yes, no, hint-left}
 
 -- WHAT THE CODE TESTS
@@ -41,9 +40,6 @@ module _ (p : Progress) (proof marks : List ℤ) {h : Bool} (e : h ≡ hintLeft 
     end-none z = no (hintLeft p) 10 (cond last 0 14) (sym e ∙ q) (no last 0 14 (sym found ∙ z) refl)
 
 -- WHAT THE RULES SAY
-abbrev pub numbered : ℕ → Option ℕ
-numbered k = cond (eqb k 0) none (some k)
-
 pub end-is : {p : Progress} {t : Tables} {w : Work} {f : Formula} {s : State} → Shown p t w f s → (l : Limits)
     → certificateEnd s ≡ numbered (endBroken p (t .proof) (t .marks))
 unfolding certificateEnd endBroken

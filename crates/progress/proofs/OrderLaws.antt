@@ -15,7 +15,7 @@ use Rattle.rules.specs.CertificateLines.{State, beforeAdditions, beforeHints, h
 use Rattle.rules.proofs.Kit.{clear}
 use Rattle.tables.specs.Tables.{Tables}
 use Rattle.clauses.specs.Standing.{proofNeed, marksNeed, grown, roomFor}
-use Rattle.progress.specs.declared.Counts.{Counts}
+use Rattle.reading.specs.declared.Counts.{Counts}
 use Rattle.progress.specs.declared.Hinted.{Hinted}
 use Rattle.progress.specs.declared.Progress.{Progress}
 use Rattle.progress.specs.Shown.{Work, HintsShown, Shown}

@@ -5,7 +5,7 @@ use Prim.Native.Nat.{ℕ, _+_, _%_, max}
 use lib.Dec.{eqb, leb, ltb}
 use lib.IntN.{ℤ}
 use Rattle.clauses.specs.Standing.{roomFor, standing, placesOf, hasEmpty}
-use Rattle.progress.specs.declared.Counts.{Counts}
+use Rattle.reading.specs.declared.Counts.{Counts}
 use Rattle.progress.specs.declared.Progress.{Progress}
 
 -- "in this order: mapping lines, at most one `o` line, `e` lines, then additions and deletions mixed"

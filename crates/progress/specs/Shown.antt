@@ -2,6 +2,7 @@
 use mathlib.Core.Path.{_≡_}
 use mathlib.Core.Bool.{true, false}
 use mathlib.Core.List.{List, map}
+use mathlib.Core.Logic.{_⊎_, inl, inr}
 use mathlib.Core.Option.{Option, none, some}
 use Prim.Native.Nat.{ℕ, _+_, _*_, _≤_, _<_}
 use lib.ListN.{length}
@@ -14,8 +15,12 @@ use Rattle.rules.specs.Formula.{Formula}
 use Rattle.rules.specs.Needs.{Places, places, fits}
 use Rattle.rules.specs.Least.{Proper}
 use Rattle.rules.specs.Step as rules
-use Rattle.rules.specs.CertificateLines.{State}
-use Rattle.tables.specs.Tables.{Tables, lengthsOf, KeptAll}
+use Rattle.rules.specs.Step.{judgeBytes}
+use Rattle.rules.specs.Forms.{certificateLine}
+use Rattle.rules.specs.CertificateLines.{State, start, judge, certificateEnd}
+use Rattle.tables.specs.Tables.{Tables, lengthsOf}
+use Rattle.reading.specs.Lines as reading
+use Rattle.reading.specs.Lines.{Rules, Code, Leads}
 use Rattle.formula.specs.Shown.{FormulaShown}
 use Rattle.mapping.specs.Shown.{MappingShown}
 use Rattle.matrix.specs.Index.{Indexed}
@@ -79,13 +84,22 @@ pub record Shown (p : Progress) (t : Tables) (w : Work) (f : Formula) (s : State
 abbrev pub weight : Progress → ℕ
 weight p = p .mapped .used + proofNeed (p .store) + marksNeed (p .store) + p .counts .expansions + p .counts .additions + p .counts .deletions
 
+-- THE RULES AND THE CODE of FERAT, as the reading of a certificate has them
+abbrev pub feratRules : Rules State
+feratRules = record { part = λ s. s; judge = λ l f. judgeBytes certificateLine (judge l f); atEnd = certificateEnd; start = start }
+
+abbrev pub feratCode : Code State Progress Work
+feratCode = record { Shown = Shown; counts = λ p. p .counts; weight = weight }
+
 -- a line of n bytes leaves the measure at most 2^22
 abbrev pub Light : Progress → ℕ → Type 0
-Light p n = weight p + 3 * n ≤ 4194304
+Light = reading.Light feratRules feratCode
+
+-- the next progress, or a refusal's number
+abbrev pub answerOf : Step → Progress ⊎ ℕ
+answerOf (Next q) = inl q
+answerOf (Refuse k) = inr k
 
 -- WHAT A LINE OF n BYTES LEADS TO: the rules' step and the code's; the tables before, the tables and the working memory after
 abbrev pub Stepped : Formula → Progress → ℕ → Tables → rules.Step State → Step → Tables → Work → Type 0
-Stepped f p n t (rules.next s) (Next q) u w = Shown q u w f s × KeptAll (s .needs) t u × (weight q ≤ weight p + 3 * n)
-Stepped f p n t (rules.next s) (Refuse k) u w = ⊥
-Stepped f p n t (rules.refuse m s) (Next q) u w = ⊥
-Stepped f p n t (rules.refuse m s) (Refuse k) u w = (k ≡ m) × KeptAll (s .needs) t u
+Stepped f p n t x r u w = Leads feratRules feratCode f p n t x (answerOf r) u w

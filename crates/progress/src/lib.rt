@@ -13,18 +13,12 @@ pub use order::hint_missing;
 pub use order::limit_broken;
 pub use order::one_more;
 use propagation::Units;
+use reading::Counts;
 
 // Whether there was an `o` line, and how many hints it has.
 pub struct Hinted {
     pub given: bool,
     pub count: usize,
-}
-
-// The lines accepted.
-pub struct Counts {
-    pub expansions: u32,
-    pub additions: u32,
-    pub deletions: u32,
 }
 
 // What is carried from line to line, beside the tables: what was read of the formula, the copies mapped, the hints, the clauses stored,

@@ -1,10 +1,10 @@
 // The order of the certificate's lines, its hints and its limits.
 ghost use mathlib.Core.Path.{_≡_};
 ghost use Rattle.progress.specs.Order.{noAdditions, noHints, hintMissing, hintLeft, limitBroken, more};
-use crate::Counts;
 use crate::Progress;
 use cells::larger;
 use cells::wide;
+use reading::Counts;
 
 // No addition and no deletion was accepted.
 pub fn before_additions(c: Counts) -> bool

@@ -16,7 +16,7 @@ abbrev pub Positive : List ℕ → Type 0
 Positive ns = (n : ℕ) → In n ns → eqb n 0 ≡ false
 
 -- what numbers read up to a zero are
-abbrev NumbersRead : Option (List ℕ × List Token) → Type 0
+abbrev pub NumbersRead : Option (List ℕ × List Token) → Type 0
 NumbersRead none = Unit {0}
 NumbersRead (some r) = Positive (r .0)
 
@@ -24,7 +24,7 @@ ahead-positive : (n : ℕ) (o : Option (List ℕ × List Token)) → eqb n 0 ≡
 ahead-positive n none e r = tt
 ahead-positive n (some q) e r = λ m i. either (λ p. ap (λ k. eqb k 0) p ∙ e) (r m) (List·Memᴰ·cases-cons i)
 
-upToZero-positive : (ts : List Token) → NumbersRead (upToZero numeral ts)
+pub upToZero-positive : (ts : List Token) → NumbersRead (upToZero numeral ts)
 upToZero-positive [] = tt
 upToZero-positive (number n ∷ ts) = go (eqb n 0) refl (upToZero-positive ts)
   where

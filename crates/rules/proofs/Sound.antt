@@ -29,7 +29,7 @@ use Rattle.rules.proofs.HintsForm.{HintsPositive, LineRead, certificate
 use Rattle.rules.proofs.ExpansionSound.{copyValue, expands-true}
 use Rattle.rules.proofs.Judged.{Judged, judged}
 
-getD-in : {A : Type 0} (xs : List A) (i : ℕ) (d : A) → i < length xs → In (getD xs i d) xs
+pub getD-in : {A : Type 0} (xs : List A) (i : ℕ) (d : A) → i < length xs → In (getD xs i d) xs
 getD-in [] i d h = absurd (omega arith)
 getD-in (x ∷ xs) zero d h = List·Memᴰ·head refl
 getD-in (x ∷ xs) (suc i) d h = List·Memᴰ·tail (getD-in xs i d (omega arith))

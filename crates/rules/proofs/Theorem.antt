@@ -14,15 +14,16 @@ use Rattle.rules.specs.Step.{Read, ended, refusedAt}
 use Rattle.rules.specs.FormulaLines.{readFormula}
 use Rattle.rules.specs.CertificateLines.{State, readCertificate}
 use Rattle.rules.specs.Falsity.{FalseFile, isFalse}
-use Rattle.rules.specs.Verdict.{Checked, early, ofCertificate, ofFormula, check, verdict}
+use Rattle.rules.specs.Verdict.{Checked, early, ofCertificate, ofFormula, bothFiles, check, verdict}
 use Rattle.rules.specs.declared.Verdict.the-variants.{Accepted, Refused}
 use Rattle.rules.proofs.Kit.{by-no}
 use Rattle.rules.proofs.FalsityLaw.{decides}
+use Rattle.rules.proofs.Strategy.{Strategy}
 use Rattle.rules.proofs.Play.{strategy}
 use Rattle.rules.proofs.Reading.{Formed, read-formed, read-same}
 use Rattle.rules.proofs.Sound.{certificate-sound}
 
-refused-not : (number file line : ℕ) → Refused number file line ≡ Accepted → ⊥
+pub refused-not : (number file line : ℕ) → Refused number file line ≡ Accepted → ⊥
 refused-not number file line h = let z : _≡_ {A = ℕ} 0 1 = cc in omega arith
 
 certificate-ended : (r : Read State) → ofCertificate r .report .verdict ≡ Accepted → (s : State) × (r ≡ ended s)
@@ -45,14 +46,14 @@ not-overlong true true n c h = h
 not-overlong true false n c h = absurd (refused-not 1 2 0 h)
 not-overlong false b n c h = absurd (refused-not 1 1 0 h)
 
-pub accepted-false : (limits : Limits) (formula certificate : List ℕ) → verdict limits formula certificate .verdict ≡ Accepted
-    → FalseFile formula
-unfolding verdict check FalseFile
-accepted-false limits formula certificate h = (f, read-same limits formula f r, decides f .0 false-f)
+-- a check of both files that answered accepted, whatever its kind: if acceptance of the certificate's lines makes the formula false, the file's
+-- formula is false
+pub both-false : (limits : Limits) (formula certificate : List ℕ) (k : Formula → Checked)
+    → ((f : Formula) → Formed f → k f .report .verdict ≡ Accepted → (isFalse f ≡ false → Strategy f) → isFalse f ≡ true)
+    → bothFiles limits formula certificate k .report .verdict ≡ Accepted → FalseFile formula
+unfolding FalseFile
+both-false limits formula certificate k lines h = (f, read-same limits formula f r, decides f .0 false-f)
   where
-    k : Formula → Checked
-    k g = ofCertificate (readCertificate limits g certificate)
-
     p : Passed (readFormula limits formula) k
     p = formula-ended (readFormula limits formula) k
         (not-overlong (allows (limits .formulaBytes) (length formula)) (allows (limits .certificateBytes) (length certificate))
@@ -67,11 +68,18 @@ accepted-false limits formula certificate h = (f, read-same limits formula f r, 
     formed : Formed f
     formed = read-formed limits formula f r
 
-    c : (s : State) × (readCertificate limits f certificate ≡ ended s)
-    c = certificate-ended (readCertificate limits f certificate) (p .2)
-
     false-f : isFalse f ≡ true
-    false-f = by-no (isFalse f) λ e. certificate-sound limits f formed (strategy f (formed .once) e) certificate (c .0) (c .1)
+    false-f = lines f formed (p .2) (strategy f (formed .once))
+
+pub accepted-false : (limits : Limits) (formula certificate : List ℕ) → verdict limits formula certificate .verdict ≡ Accepted
+    → FalseFile formula
+unfolding verdict check
+accepted-false limits formula certificate h =
+    both-false limits formula certificate (λ f. ofCertificate (readCertificate limits f certificate))
+    (λ f formed accepted play.
+    let c = certificate-ended (readCertificate limits f certificate) accepted in
+    by-no (isFalse f) λ e. certificate-sound limits f formed (play e) certificate (c .0) (c .1))
+    h
 
 -- a check: its limits and table lengths, its formula and its certificate
 pub record Check : Type 0 where

@@ -33,6 +33,10 @@ state m h cs e a d n = record { mapped = m; hinted = h; standing = cs; expansion
 abbrev pub start : Formula → State
 start f = state [] none [] 0 0 0 (formulaNeeds f)
 
+-- matrix clause n, "counted from 1"
+abbrev pub clauseNumber : Formula → ℕ → Lits
+clauseNumber f n = getD (f .matrix) (n - 1) []
+
 module _ (s : State) where
   -- the state with what a line needs of the tables
   abbrev pub needing : CertificateLine → State
@@ -63,7 +67,7 @@ module _ (s : State) where
 
   -- "`o n1..nj 0`, j from 0, gives the i-th `e` line clause ni, counted from 1"; without an `o` line "any clause of the matrix"
   abbrev pub candidates : Formula → List Lits
-  candidates f = maybe (s .hinted) (f .matrix) (λ ns. getD (f .matrix) (getD ns (s .expansions) 0 - 1) [] ∷ [])
+  candidates f = maybe (s .hinted) (f .matrix) (λ ns. clauseNumber f (getD ns (s .expansions) 0) ∷ [])
 
 -- "a copy above its limit; .. E or L above V; a hint above C"
 abbrev pub copiesInRange : Limits → List ℕ → Bool

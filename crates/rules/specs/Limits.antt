@@ -12,6 +12,7 @@ pub record Limits : Type 0 where
   pub highest : Option ℕ
   pub clauses : Option ℕ
   pub copies : Option ℕ
+  pub indexes : Option ℕ
   pub lengths : Option Places
 
 abbrev pub allows : Option ℕ → ℕ → Bool
@@ -22,7 +23,8 @@ abbrev pub hasRoom : Option Places → Places → Bool
 hasRoom none needs = true
 hasRoom (some lengths) needs = fits lengths needs
 
--- "V 0 to 4,096. C 0 to 8,192. Variables of the certificate's clauses .. 1 to 16,384", with files of at most so many bytes
+-- "V 0 to 4,096. C 0 to 8,192. Variables of the certificate's clauses .. 1 to 16,384"; "an index above 65,536, is refused 3" (#101); with files
+-- of at most so many bytes
 abbrev pub limitsWith : ℕ → ℕ → Places → Limits
 limitsWith f c lengths = record {
   formulaBytes = some f;
@@ -30,6 +32,7 @@ limitsWith f c lengths = record {
   highest = some 4096;
   clauses = some 8192;
   copies = some 16384;
+  indexes = some 65536;
   lengths = some lengths;
 }
 
@@ -43,4 +46,4 @@ programLimits lengths = limitsWith 16384 65536 lengths
 
 -- limits and table lengths set aside
 abbrev pub setAside : Limits
-setAside = record { formulaBytes = none; certificateBytes = none; highest = none; clauses = none; copies = none; lengths = none }
+setAside = record { formulaBytes = none; certificateBytes = none; highest = none; clauses = none; copies = none; indexes = none; lengths = none }

@@ -24,7 +24,7 @@ use Rattle.propagation.specs.Answers.{Held}
 use Rattle.redundancy.specs.declared.Addition.{Addition}
 use Rattle.redundancy.specs.declared.Addition.the-variants.{Accepted, Refused}
 use Rattle.redundancy.specs.Additions.{accepts, Decided}
-use Rattle.progress.specs.declared.Counts.{Counts}
+use Rattle.reading.specs.declared.Counts.{Counts}
 use Rattle.progress.specs.declared.Progress.{Progress}
 use Rattle.progress.specs.declared.Step.the-variants.{Next, Refuse}
 use Rattle.progress.specs.Order.{hintLeft}

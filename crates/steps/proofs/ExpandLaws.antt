@@ -25,8 +25,8 @@ use Rattle.rules.specs.CertificateLines.{State, state, needing, hintThere, cand
 use Rattle.rules.proofs.Kit.{and-l, and-r}
 use Rattle.tables.specs.Tables.{Tables, tables, lengthsOf, KeptAll}
 use Rattle.tables.proofs.Frames.{all-self}
-use Rattle.mapped.specs.Marks.{isNoted}
-use Rattle.mapped.proofs.MarkLaws.{mapped-rule}
+use Rattle.unmapped.specs.Copies.{allMapped}
+use Rattle.unmapped.proofs.CopyLaws.{mapped-all}
 use Rattle.mapping.proofs.LineLaws.{shown-copy}
 use Rattle.copies.specs.Copies.{standsOf, annotationAt, annotationOf}
 use Rattle.expansion.specs.Codes.{expandsNamed, expandsAny}
@@ -34,14 +34,14 @@ use Rattle.expansion.proofs.ClauseLaws.{CopiesTold, named-tested, any-tested}
 use Rattle.clauses.specs.declared.Cursor.{Cursor}
 use Rattle.clauses.specs.Standing.{standing, literalsFrom, pendingFrom, pending, writtenAt, proofNeed}
 use Rattle.clauses.proofs.CursorLaws.{written-there}
-use Rattle.progress.specs.declared.Counts.{Counts}
+use Rattle.reading.specs.declared.Counts.{Counts}
 use Rattle.progress.specs.declared.Progress.{Progress}
 use Rattle.progress.specs.declared.Step.the-variants.{Next, Refuse}
 use Rattle.progress.specs.Order.{hintMissing}
 use Rattle.progress.specs.Shown.{Work, work, HintsShown, Shown, Light, Stepped}
 use Rattle.steps.specs.Judges.{kindJudge, Pending, Judges}
 use Rattle.steps.specs.Stands.{oneExpansion, Standable, Stands}
-use Rattle.steps.specs.Expands.{allMapped, hintAt, fitsAt, ruleBroken}
+use Rattle.steps.specs.Expands.{hintAt, fitsAt, ruleBroken}
 use Rattle.steps.proofs.JudgeLaws.{judge-kind, judge-next, refused-in, accepted-in}
 use Rattle.progress.proofs.OrderLaws.{yes, no, hint-missing}
 use Rattle.steps.proofs.StandLaws.{expansions-add, clause-needs, more-is, small-then, stood-kept, stood-shown, stood-weight}
@@ -101,20 +101,6 @@ module _ (p : Progress) (t : Tables) (w : Work) {start : Cursor} (y : start ≡ 
       unfolding ruleBroken
       rule-none j = yes copies second 9 (sym e ∙ h) (no (hintMissing p) 10 third (sym f ∙ i) (yes (fitsAt p t (w .starts)) 0 11 (sym g ∙ j) refl))
 
--- the copies of a clause one after the other
-module _ (noted : List ℕ) where
-  pub mapped-end : {xs : List ℕ} → xs ≡ [] → allMapped noted xs ≡ true
-  unfolding allMapped
-  mapped-end e = ap (all (λ x. isNoted noted (x / 2))) e
-
-  pub mapped-more : {xs ys : List ℕ} {x : ℕ} → xs ≡ x ∷ ys → {b : Bool} → b ≡ isNoted noted (x / 2) → b ≡ true → allMapped noted xs ≡ allMapped noted ys
-  unfolding allMapped
-  mapped-more {ys} e q z = ap (all (λ x. isNoted noted (x / 2))) e ∙ ap (λ b. b && all (λ x. isNoted noted (x / 2)) ys) (sym q ∙ z)
-
-  pub mapped-not : {xs ys : List ℕ} {x : ℕ} → xs ≡ x ∷ ys → {b : Bool} → b ≡ isNoted noted (x / 2) → b ≡ false → allMapped noted xs ≡ false
-  unfolding allMapped
-  mapped-not {ys} e q z = ap (all (λ x. isNoted noted (x / 2))) e ∙ ap (λ b. b && all (λ x. isNoted noted (x / 2)) ys) (sym q ∙ z)
-
 -- THE RULES FROM 9 ON, as a number that is 0 where none is broken
 abbrev firstRule : Bool → Bool → Bool → ℕ
 firstRule a b c = cond a (cond (not b) 10 (cond c 0 11)) 9
@@ -135,13 +121,8 @@ module _ {p : Progress} {t : Tables} {w : Work} {f : Formula} {s : State} (sh : 
   abbrev fitting : Bool
   fitting = any (expands f (s .mapped) c) (candidates s f)
 
-  codes-same : (d : Lits) → all (λ x. isNoted (w .noted) (x / 2)) (map codeOf d) ≡ all (isMapped (s .mapped)) (vars d)
-  codes-same [] = refl
-  codes-same (l ∷ d) = ap₂ _&&_ (mapped-rule (sh .mapping .noted) l refl) (codes-same d)
-
   copies-same : allMapped (w .noted) (pending (t .proof) (p .store)) ≡ allCopies
-  unfolding allMapped
-  copies-same = ap (all (λ x. isNoted (w .noted) (x / 2))) (o .stored) ∙ codes-same c
+  copies-same = mapped-all (sh .mapping .noted) c (o .stored)
 
   there : listAt (t .proof) (writtenAt (p .store)) ≡ map codeOf c
   there = written-there (t .proof) (p .store) ∙ o .stored

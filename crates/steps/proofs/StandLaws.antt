@@ -23,7 +23,7 @@ use Rattle.clauses.proofs.StoreLaws.{proof-grown, marks-grown, place-new}
 use Rattle.propagation.proofs.HeldLaws.{held-stood}
 use Rattle.propagation.specs.declared.Units.{Units}
 use Rattle.propagation.specs.Answers.{Held}
-use Rattle.progress.specs.declared.Counts.{Counts}
+use Rattle.reading.specs.declared.Counts.{Counts}
 use Rattle.progress.specs.declared.Hinted.{Hinted}
 use Rattle.progress.specs.declared.Progress.{Progress}
 use Rattle.progress.specs.Shown.{Work, work, HintsShown, needsOf, Shown, weight, Light}

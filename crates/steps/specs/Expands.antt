@@ -3,19 +3,14 @@ use mathlib.Core.Bool.{Bool, cond}
 use mathlib.Core.List.{List}
 use Prim.Native.Nat.{ℕ, _/_}
 use lib.IntN.{ℤ}
-use Rattle.lines.specs.Lists.{all}
 use Rattle.cells.specs.Cells.{codeAt}
 use Rattle.tables.specs.Tables.{Tables}
-use Rattle.mapped.specs.Marks.{isNoted}
+use Rattle.unmapped.specs.Copies.{allMapped}
 use Rattle.expansion.specs.Codes.{expandsNamed, expandsAny}
 use Rattle.clauses.specs.Standing.{pending, writtenAt}
 use Rattle.progress.specs.declared.Progress.{Progress}
 use Rattle.progress.specs.Order.{hintMissing}
 use Rattle.progress.specs.Shown.{Work}
-
--- every copy of these codes is mapped
-unfoldable pub allMapped : List ℕ → List ℕ → Bool
-allMapped noted xs = all (λ x. isNoted noted (x / 2)) xs
 
 -- hint number e, counted from 0
 unfoldable pub hintAt : List ℤ → ℕ → ℕ

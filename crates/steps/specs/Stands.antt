@@ -8,7 +8,7 @@ use Rattle.rules.specs.Needs.{Places, places}
 use Rattle.clauses.specs.Standing.{standing, placesOf, pending, proofNeed, marksNeed, grown, Filled, Stood}
 use Rattle.propagation.specs.declared.Units.{Units}
 use Rattle.propagation.specs.Answers.{Held}
-use Rattle.progress.specs.declared.Counts.{Counts}
+use Rattle.reading.specs.declared.Counts.{Counts}
 use Rattle.progress.specs.declared.Progress.{Progress}
 use Rattle.progress.specs.Order.{more}
 

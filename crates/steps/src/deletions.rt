@@ -4,12 +4,12 @@ ghost use Rattle.tables.specs.Tables.{Tables};
 ghost use Rattle.progress.specs.Shown.{Work};
 ghost use Rattle.steps.specs.Judges.{Deletes, among, beside};
 ghost use Rattle.steps.specs.Stands.{deletedIn};
-use progress::Counts;
 use progress::Progress;
 use progress::Step;
 use progress::hint_left;
 use progress::one_more;
 use propagation::Units;
+use reading::Counts;
 use trail::Falses;
 use trail::Trail;
 

@@ -2,42 +2,22 @@
 ghost use mathlib.Core.Path.{_≡_};
 ghost use Rattle.rules.specs.Forms.{expansion};
 ghost use Rattle.tables.specs.Tables.{six};
-ghost use Rattle.clauses.specs.Standing.{literalsFrom};
 ghost use Rattle.progress.specs.Shown.{four};
 ghost use Rattle.steps.specs.Judges.{Judges};
 ghost use Rattle.steps.specs.Stands.{oneExpansion};
-ghost use Rattle.steps.specs.Expands.{allMapped, hintAt, fitsAt, ruleBroken};
+ghost use Rattle.steps.specs.Expands.{hintAt, fitsAt, ruleBroken};
 use crate::additions::stand;
 use cells::wide;
-use clauses::Cursor;
 use mapped::Noted;
 use matrix::Starts;
-use progress::Counts;
 use progress::Progress;
 use progress::Step;
 use progress::hint_missing;
 use progress::one_more;
 use propagation::Watches;
+use reading::Counts;
 use trail::Falses;
 use trail::Trail;
-
-// Whether all copies of a clause, from a literal of it on, are mapped.
-fn all_mapped(proof: &[i32], from: Cursor, noted: &Noted) -> bool
-    ensures { λ r. ⌜ r ≡ allMapped (now (noted .entry)) (literalsFrom (now (proof .entry)) from) ⌝ }
-{
-    let mut c = from;
-    loop {
-        let x = clauses::literal(proof, c);
-        if x == 0 {
-            return true;
-        }
-        if mapped::is_mapped(noted, x) {
-            c = clauses::after(proof, c);
-        } else {
-            return false;
-        }
-    }
-}
 
 // What hint number e says, counted from 0.
 fn hint_at(proof: &[i32], e: u32) -> usize
@@ -89,7 +69,7 @@ fn rule_broken(
         (four (starts .entry) (noted .entry) (falses .entry) (trail .entry)) ⌝ }
 {
     let store = p.store;
-    if all_mapped(proof, clauses::pending(store), noted) {
+    if unmapped::all_mapped(proof, clauses::pending(store), noted) {
         if hint_missing(p) {
             return 10;
         }

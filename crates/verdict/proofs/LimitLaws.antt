@@ -13,13 +13,14 @@ use Rattle.rules.specs.Needs.{Places, places}
 use Rattle.rules.specs.Limits.{limitsWith, limits, programLimits}
 use Rattle.rules.specs.FormulaLines.{readFormula}
 use Rattle.rules.specs.CertificateLines.{readCertificate}
-use Rattle.rules.specs.Verdict.{Checked, early, ofCertificate, ofFormula, check, verdict, the-rules, Ranged}
+use Rattle.rules.specs.Verdict.{Checked, early, ofCertificate, ofFormula, check, verdict, the-rules, FeratNumber, Ranged}
 use Rattle.rules.specs.declared.Verdict.the-variants.{Refused}
 use Rattle.rules.specs.declared.Report.{Report}
 use Rattle.rules.proofs.Ranges.{check-ranged}
 use Rattle.rules.proofs.Theorem.{accepted-false}
 use Rattle.tables.specs.Tables.{Tables, lengthsOf, KeptAll}
-use Rattle.ferat.specs.Check.{refusedEarly, CheckedIn}
+use Rattle.reading.specs.Ends.{refusedEarly}
+use Rattle.ferat.specs.Check.{CheckedIn}
 use Rattle.tables.proofs.Frames.{all-self}
 use Rattle.report.specs.Fields.{Rendered}
 use Rattle.verdict.specs.Program.{ReportedIn, Loaded, Printed}
@@ -65,7 +66,7 @@ module _ (bs cs : List ℕ) where
         record {
           report = v;
           kept = subst (λ z. KeptAll (z .needs) t u) e s;
-          ranged = subst (λ (z : Report). Ranged bs cs (z .verdict)) (sym v) (check-ranged (programLimits (lengthsOf t)) bs cs);
+          ranged = subst (λ (z : Report). Ranged FeratNumber bs cs (z .verdict)) (sym v) (check-ranged (programLimits (lengthsOf t)) bs cs);
           falsity = λ a. accepted-false (programLimits (lengthsOf t)) bs cs (ap (λ (z : Report). z .verdict) (sym v) ∙ a);
         }
 

@@ -5,7 +5,7 @@ use Prim.Native.Nat.{ℕ}
 use lib.ListN.{length, take}
 use Rattle.rules.specs.Needs.{places}
 use Rattle.rules.specs.Limits.{programLimits}
-use Rattle.rules.specs.Verdict.{check, verdict, Ranged}
+use Rattle.rules.specs.Verdict.{check, verdict, FeratNumber, Ranged}
 use Rattle.rules.specs.Falsity.{FalseFile}
 use Rattle.rules.specs.declared.Verdict.the-variants.{Accepted}
 use Rattle.rules.specs.declared.Report.{Report}
@@ -19,7 +19,7 @@ pub record ReportedIn (formula certificate : List ℕ) (t : Tables) (r : Report)
   -- "places beyond the need, up to the line where the check ended, hold what they held"
   pub kept : KeptAll (check (programLimits (lengthsOf t)) formula certificate .needs) t u
   -- "A refused pair gets one number from 1 to 15, the file and the line"
-  pub ranged : Ranged formula certificate (r .verdict)
+  pub ranged : Ranged FeratNumber formula certificate (r .verdict)
   -- an accepted formula "is false when its quantifiers are read recursively"
   pub falsity : r .verdict ≡ Accepted → FalseFile formula
 

@@ -3,11 +3,10 @@ ghost use mathlib.Core.Path.{_≡_};
 ghost use Prim.Native.Nat.{_≤_};
 ghost use lib.ListN.{length, take};
 ghost use Rattle.tables.specs.Tables.{six};
-ghost use Rattle.ferat.specs.Check.{refusedEarly};
 ghost use Rattle.verdict.specs.Program.{ReportedIn, Printed};
 use libc::STDOUT_FILENO;
+use reading::refused_early;
 use rules::Report;
-use rules::Verdict;
 
 // The program holds so many bytes of each file.
 const FORMULA: usize = 16384;
@@ -27,22 +26,6 @@ fn load(path: &[u8], bytes: &mut [u8]) -> usize
     n
 }
 
-// Refusal 1 of a file.
-fn refuse_overlong(file: u32) -> Report
-    ensures { λ r. ⌜ r ≡ refusedEarly 1 file 0 ⌝ }
-{
-    Report {
-        verdict: Verdict::Refused {
-            number: 1,
-            file,
-            line: 0,
-        },
-        expansions: 0,
-        additions: 0,
-        deletions: 0,
-    }
-}
-
 // The report of two files under the program's limits.
 fn report_of(
     formula: &[u8],
@@ -59,10 +42,10 @@ fn report_of(
         (six (prefix .exit) (matrix .exit) (map .exit) (proof .exit) (marks .exit) (values .exit)) ⌝ }
 {
     if FORMULA < formula.len() {
-        return refuse_overlong(1);
+        return refused_early(1, 1, 0);
     }
     if CERTIFICATE < certificate.len() {
-        return refuse_overlong(2);
+        return refused_early(1, 2, 0);
     }
     ferat::check(
         formula,

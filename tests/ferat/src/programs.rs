@@ -1,7 +1,8 @@
-//! The command (`hutsvida ferat`) and the C++ example, run on files.
+//! The command (`hutsvida ferat`, `hutsvida ferp`) and the C++ example, run
+//! on files.
 
-use outside::corpus::{self, Rng};
-use outside::{fixed, reference};
+use outside::corpus::{self, Case, Rng};
+use outside::{ferp_fixed, fixed, reference, Kind};
 use std::ffi::{OsStr, OsString};
 use std::fs::File;
 use std::os::unix::ffi::OsStrExt;
@@ -11,7 +12,7 @@ use std::process::{Command, Output, Stdio};
 /// Tables that no pair within document 01's limits fills.
 const PLACES: [usize; 6] = [4_096, 524_288, 524_288, 524_288, 524_288, 16_384];
 
-const WORDS: [&str; 16] = [
+const WORDS: [&str; 18] = [
     "",
     "overlong",
     "malformed",
@@ -28,6 +29,8 @@ const WORDS: [&str; 16] = [
     "nothing to delete",
     "not closed",
     "table full",
+    "bad parent",
+    "index used",
 ];
 
 /// A folder of its own for the files, removed at the end.
@@ -55,15 +58,17 @@ impl Drop for Folder {
 
 /// Two files and the names that they have.
 struct Pair {
+    kind: Kind,
     names: [OsString; 2],
     files: [Vec<u8>; 2],
 }
 
-/// How a program is called, how it shows a refused line, and whether reasons
-/// follow, indented twice.
+/// How a program is called, the certificates that it takes, how it shows a
+/// refused line, and whether reasons follow, indented twice.
 struct Program<'a> {
     path: &'a Path,
     words: &'a [&'a str],
+    kinds: &'a [Kind],
     shown: Shown,
     reasons: bool,
 }
@@ -103,8 +108,8 @@ fn by_example(_: &[OsString; 2], _: u32, _: usize, line: u32, bytes: &[u8]) -> S
 /// What is to be printed for these pairs, and the exit status.
 fn expected(pairs: &[Pair], shown: Shown) -> (String, i32) {
     let (mut text, mut status) = (String::new(), 0);
-    for Pair { names, files } in pairs {
-        let verdict = reference::check(&files[0], &files[1], PLACES).verdict;
+    for Pair { kind, names, files } in pairs {
+        let verdict = kind.check(&files[0], &files[1], PLACES).verdict;
         text += &format!("{}\n", verdict.text());
         assert!(verdict.number != 0 || reference::is_false(&files[0]) != Some(false), "accepted, and its formula is true");
         if verdict.number != 0 {
@@ -153,30 +158,32 @@ fn trouble(program: &Program, folder: &Folder, name: &str, names: &[&OsStr], out
     Ok(())
 }
 
-fn stored(folder: &Folder, index: usize, files: [Vec<u8>; 2]) -> Result<Pair, String> {
+/// The example tells the kind of a certificate by the ending of its name.
+fn stored(folder: &Folder, index: usize, kind: Kind, files: [Vec<u8>; 2]) -> Result<Pair, String> {
     let formula = folder.write(OsStr::new(&format!("{index} formula")), &files[0])?;
-    let certificate = folder.write(OsStr::new(&format!("{index} certificate")), &files[1])?;
-    Ok(Pair { names: [formula, certificate], files })
+    let certificate = folder.write(OsStr::new(&format!("{index} certificate.{}", kind.name())), &files[1])?;
+    Ok(Pair { kind, names: [formula, certificate], files })
 }
 
 /// The stored pairs one by one, the fixed cases as one list, and lists of
 /// made pairs; answers how many pairs were run.
 fn compare_pairs(program: &Program, folder: &Folder, data: &Path) -> Result<usize, String> {
     let mut count = 0;
-    for (name, formula, certificate, _) in corpus::data(data)? {
-        compare(program, folder, &name, &[stored(folder, 0, [formula, certificate])?])?;
+    for case in corpus::data(data)?.into_iter().filter(|case| program.kinds.contains(&case.kind)) {
+        compare(program, folder, &case.name, &[stored(folder, 0, case.kind, [case.formula, case.certificate])?])?;
         count += 1;
     }
-    let cases = fixed::cases().into_iter().map(|case| [case.formula, case.certificate]);
-    let pairs: Vec<Pair> = cases.enumerate().map(|(index, files)| stored(folder, index, files)).collect::<Result<_, _>>()?;
+    let cases = fixed::cases().into_iter().chain(ferp_fixed::cases()).filter(|case| program.kinds.contains(&case.kind));
+    let pair = |(index, case): (usize, fixed::Fixed)| stored(folder, index, case.kind, [case.formula, case.certificate]);
+    let pairs: Vec<Pair> = cases.enumerate().map(pair).collect::<Result<_, _>>()?;
     compare(program, folder, "the fixed cases", &pairs)?;
     count += pairs.len();
     let mut rng = Rng::new(8);
     for list in 0..60 {
         let mut pairs = Vec::new();
         for index in 0..1 + rng.below(8) {
-            let case = corpus::case(7, rng.next() >> 20);
-            pairs.push(stored(folder, index, [case.formula, case.certificate])?);
+            let case = Case::of(rng.one(program.kinds), 7, rng.next() >> 20);
+            pairs.push(stored(folder, index, case.kind, [case.formula, case.certificate])?);
         }
         compare(program, folder, &format!("list {list} of made pairs"), &pairs)?;
         count += pairs.len();
@@ -184,13 +191,17 @@ fn compare_pairs(program: &Program, folder: &Folder, data: &Path) -> Result<usiz
     Ok(count)
 }
 
+/// A file of 1,048,576 bytes at most.
+fn fill(start: &str, part: &str, end: &str) -> Vec<u8> {
+    let count = (1_048_576 - start.len() - end.len()) / part.len();
+    format!("{start}{}{end}", part.repeat(count)).into_bytes()
+}
+
 /// Files as long as they may be, and as full, with the verdicts worked out
 /// by hand: no table is full.
-fn dense() -> Vec<([Vec<u8>; 2], &'static str)> {
-    let fill = |start: &str, part: &str, end: &str| {
-        let count = (1_048_576 - start.len() - end.len()) / part.len();
-        format!("{start}{}{end}", part.repeat(count)).into_bytes()
-    };
+type Dense = Vec<([Vec<u8>; 2], &'static str)>;
+
+fn dense_ferat() -> Dense {
     let (one, expanded) = (b"p cnf 1 1\ne 1 0\n1 0\n".to_vec(), "x 1 0 1 0 0\ne 1 0\n");
     vec![
         ([fill("p cnf 1 1\ne 1 0\n", "1 ", "0"), expanded.into()], "refused,14,2,0,1,0,0"),
@@ -204,6 +215,29 @@ fn dense() -> Vec<([Vec<u8>; 2], &'static str)> {
     ]
 }
 
+/// One literal many times, all indexes, and clauses of all copies, which
+/// stand for the one existential: two that clash everywhere are the longest
+/// way to a resolvent, and to none.
+fn dense_ferp() -> Dense {
+    let copies = |first: i64, sign: i64| (first..=16_384).map(|copy| format!("{} ", sign * copy)).collect::<String>();
+    let (one, two) = (b"p cnf 1 1\ne 1 0\n1 0\n".to_vec(), b"p cnf 1 2\ne 1 0\n1 0\n-1 0\n".to_vec());
+    let indexed = |from: u32, rest: &str| (from..=65_536).map(|index| format!("{index} {rest}\n")).collect::<String>();
+    let units = "x 1 0 1 0 0\n1 1 0 1 0\n2 -1 0 2 0\n";
+    let all = format!("x {}0 {}0 0\n1 {}0 1 0\n", copies(1, 1), "1 ".repeat(16_384), copies(1, 1));
+    let unit = format!("{all}2 -1 0 2 0\n");
+    let clash = format!("{all}2 {}0 2 0\n", copies(1, -1));
+    let cut = (3..10).map(|index| format!("{index} {}0 1 2 0\n", copies(2, 1))).collect::<String>();
+    vec![
+        ([one, fill("x 1 0 1 0 0\n1 ", "1 ", "0 1 0")], "refused,14,2,0,1,0,0"),
+        (["p cnf 0 1\n0\n".into(), indexed(1, "0 1 0").into()], "accepted,0,0,0,65536,0,0"),
+        (["p cnf 0 1\n0\n".into(), (indexed(1, "0 1 0") + "9 0 1 0").into()], "refused,17,2,65537,65536,0,0"),
+        ([two.clone(), format!("{units}{}", indexed(3, "0 1 2 0")).into()], "accepted,0,0,0,2,65534,0"),
+        ([two.clone(), format!("{unit}{cut}").into()], "refused,14,2,0,2,7,0"),
+        ([two.clone(), format!("{clash}3 {}{}0 2 1 0\n", copies(2, 1), copies(2, -1)).into()], "refused,14,2,0,2,1,0"),
+        ([two, format!("{clash}3 {}{}0 1 2 0\n", copies(2, 1), copies(3, -1)).into()], "refused,16,2,4,2,0,0"),
+    ]
+}
+
 fn output_full() -> Result<Stdio, String> {
     let full = File::options().write(true).open("/dev/full").map_err(|error| error.to_string())?;
     Ok(full.into())
@@ -213,7 +247,7 @@ fn output_full() -> Result<Stdio, String> {
 /// kinds.
 fn compare_trouble(program: &Program, folder: &Folder) -> Result<usize, String> {
     let files = [fixed::A, fixed::A_PROOF].map(|text| text.replace('/', "\n").into_bytes());
-    let names = stored(folder, 0, files)?.names;
+    let names = stored(folder, 0, program.kinds[0], files)?.names;
     let [f, c] = [names[0].as_os_str(), names[1].as_os_str()];
     let [missing, place] = ["missing", "."].map(OsStr::new);
     trouble(program, folder, "no arguments", &[], Stdio::piped())?;
@@ -232,20 +266,24 @@ fn compare_names(program: &Program, folder: &Folder) -> Result<usize, String> {
     let link = folder.0.join("a link");
     std::os::unix::fs::symlink(program.path, &link).map_err(|error| error.to_string())?;
     let linked = Program { path: &link, ..*program };
-    let files = [fixed::A, "x 1 0 2 0 1 0/o 1 2 0/e 1 0/"].map(|text| text.replace('/', "\n").into_bytes());
+    let kind = program.kinds[0];
+    let certificate = match kind {
+        Kind::Ferat => "x 1 0 2 0 1 0/o 1 2 0/e 1 0/",
+        Kind::Ferp => "x 1 0 2 0 1 0/1 1 0 1 0/",
+    };
+    let files = [fixed::A, certificate].map(|text| text.replace('/', "\n").into_bytes());
     let names = [&b"--help"[..], b"-x", b"two\nlines", b"back\\slash", b"no \xff UTF-8", b" "];
     for name in names.map(OsStr::from_bytes) {
         let formula = folder.write(OsStr::new("-f"), &files[0])?;
-        let pair = Pair { names: [formula, folder.write(name, &files[1])?], files: files.clone() };
+        let pair = Pair { kind, names: [formula, folder.write(name, &files[1])?], files: files.clone() };
         compare(&linked, folder, "a name of its own", &[pair])?;
     }
     Ok(names.len())
 }
 
-fn compare_dense(program: &Program, folder: &Folder) -> Result<usize, String> {
-    let cases = dense();
+fn compare_dense(program: &Program, folder: &Folder, cases: Dense) -> Result<usize, String> {
     for (files, verdict) in &cases {
-        let output = run(program, folder, &stored(folder, 0, files.clone())?.names, Stdio::piped())?;
+        let output = run(program, folder, &stored(folder, 0, program.kinds[0], files.clone())?.names, Stdio::piped())?;
         let status = if verdict.starts_with("accepted") { 0 } else { 1 };
         let text = String::from_utf8_lossy(&output.stdout);
         if !text.starts_with(&format!("{verdict}\n")) || output.status.code() != Some(status) {
@@ -256,18 +294,27 @@ fn compare_dense(program: &Program, folder: &Folder) -> Result<usize, String> {
     Ok(cases.len())
 }
 
-pub fn compare_command(path: &Path, data: &Path) -> Result<(), String> {
-    let (program, folder) = (Program { path, words: &["ferat"], shown: by_command, reasons: true }, Folder::new("command")?);
+fn compare_verb(path: &Path, data: &Path, kind: Kind, dense: Dense) -> Result<(), String> {
+    let program = Program { path, words: &[kind.name()], kinds: &[kind], shown: by_command, reasons: true };
+    let folder = Folder::new(&format!("command-{}", kind.name()))?;
     let pairs = compare_pairs(&program, &folder, data)? + compare_names(&program, &folder)?;
-    let full = compare_dense(&program, &folder)?;
+    let full = compare_dense(&program, &folder, dense)?;
     let kinds = compare_trouble(&program, &folder)?;
-    println!("command: {pairs} pairs as the independent checker has them, {full} of the fullest files as worked out by hand");
-    println!("command: {kinds} kinds of trouble with status 2 and nothing printed");
+    let name = format!("command, {}", kind.name());
+    println!("{name}: {pairs} pairs as the independent checker has them, {full} of the fullest files as worked out by hand");
+    println!("{name}: {kinds} kinds of trouble with status 2 and nothing printed");
     Ok(())
 }
 
+pub fn compare_command(path: &Path, data: &Path) -> Result<(), String> {
+    compare_verb(path, data, Kind::Ferat, dense_ferat())?;
+    compare_verb(path, data, Kind::Ferp, dense_ferp())
+}
+
+/// Its lists mix both kinds.
 pub fn compare_example(path: &Path, data: &Path) -> Result<(), String> {
-    let (program, folder) = (Program { path, words: &[], shown: by_example, reasons: false }, Folder::new("example")?);
+    let program = Program { path, words: &[], kinds: &Kind::ALL, shown: by_example, reasons: false };
+    let folder = Folder::new("example")?;
     let pairs = compare_pairs(&program, &folder, data)?;
     let kinds = compare_trouble(&program, &folder)?;
     println!("C++ example: {pairs} pairs as the independent checker has them, {kinds} kinds of trouble with status 2 and nothing printed");

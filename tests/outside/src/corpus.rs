@@ -1,9 +1,13 @@
-//! Pairs of files from a fixed seed: right ones, and right ones damaged.
+//! Pairs of files from a fixed seed: right ones, and right ones damaged;
+//! those with a FERAT certificate (`ferp_corpus` has those with a FERP one),
+//! and the stored pairs.
 //!
 //! `case(seed, index)` is a function of its two arguments, so that a case
 //! can be made again from the name a comparison prints.
 
-use crate::reference::{self, Standing, ENDLESS, FILE_LIMIT};
+use crate::boundary::Files;
+use crate::reference::{self, Standing, FILE_LIMIT};
+use crate::{ferp_corpus, Kind};
 use std::collections::{BTreeMap, BTreeSet};
 use std::path::Path;
 
@@ -19,6 +23,15 @@ impl Rng {
         z = (z ^ (z >> 30)).wrapping_mul(0xbf58_476d_1ce4_e5b9);
         z = (z ^ (z >> 27)).wrapping_mul(0x94d0_49bb_1331_11eb);
         Rng((z ^ (z >> 31)) | 1)
+    }
+
+    /// The dice of a case.
+    pub(crate) fn of_case(seed: u64, index: u64) -> Rng {
+        let mut rng = Rng::new(seed.wrapping_mul(0x1_0000_0001).wrapping_add(index.wrapping_mul(0x9e37_79b9)));
+        for _ in 0..3 {
+            rng.next();
+        }
+        rng
     }
 
     pub fn next(&mut self) -> u64 {
@@ -59,7 +72,7 @@ impl Rng {
         }
     }
 
-    fn sign(&mut self, variable: i64) -> i64 {
+    pub(crate) fn sign(&mut self, variable: i64) -> i64 {
         if self.chance(1, 2) {
             -variable
         } else {
@@ -70,9 +83,9 @@ impl Rng {
 
 // ----------------------------------------------------------------- files
 
-type Line = Vec<String>;
+pub(crate) type Line = Vec<String>;
 
-fn numbers(head: &str, list: &[i64]) -> Line {
+pub(crate) fn numbers(head: &str, list: &[i64]) -> Line {
     let mut line: Line = Vec::new();
     if !head.is_empty() {
         line.push(head.to_string());
@@ -83,7 +96,7 @@ fn numbers(head: &str, list: &[i64]) -> Line {
 }
 
 /// How tokens become bytes.
-fn render(rng: &mut Rng, file: &[Line]) -> Vec<u8> {
+pub(crate) fn render(rng: &mut Rng, file: &[Line]) -> Vec<u8> {
     let style = rng.below(8);
     let mut bytes = Vec::new();
     let blanks = |rng: &mut Rng, least: usize, bytes: &mut Vec<u8>| {
@@ -131,16 +144,32 @@ fn render(rng: &mut Rng, file: &[Line]) -> Vec<u8> {
 
 #[derive(Clone, Debug)]
 pub struct Case {
-    pub kind: &'static str,
+    pub kind: Kind,
+    /// In which way it was damaged.
+    pub damage: &'static str,
     pub formula: Vec<u8>,
     pub certificate: Vec<u8>,
     pub lengths: [usize; 6],
 }
 
+impl Case {
+    /// The case of this kind, seed and index.
+    pub fn of(kind: Kind, seed: u64, index: u64) -> Case {
+        match kind {
+            Kind::Ferat => case(seed, index),
+            Kind::Ferp => ferp_corpus::case(seed, index),
+        }
+    }
+
+    pub fn files(&self) -> Files<'_> {
+        Files { kind: self.kind, formula: &self.formula, certificate: &self.certificate }
+    }
+}
+
 // -------------------------------------------------------------- formulas
 
 #[derive(Clone, Debug)]
-struct Qbf {
+pub(crate) struct Qbf {
     highest: i64,
     /// Universal or not, and the variables of the line.
     blocks: Vec<(bool, Vec<i64>)>,
@@ -148,7 +177,7 @@ struct Qbf {
 }
 
 impl Qbf {
-    fn lines(&self) -> Vec<Line> {
+    pub(crate) fn lines(&self) -> Vec<Line> {
         let mut file =
             vec![vec!["p".into(), "cnf".into(), self.highest.to_string(), self.clauses.len().to_string()]];
         for (universal, variables) in &self.blocks {
@@ -234,14 +263,28 @@ fn random_qbf(rng: &mut Rng) -> Qbf {
     Qbf { highest, blocks, clauses }
 }
 
+/// A formula that is false nine times of ten.
+pub(crate) fn mostly_false(rng: &mut Rng) -> Qbf {
+    let mut qbf = random_qbf(rng);
+    let wanted = rng.chance(9, 10);
+    for _ in 0..8 {
+        if qbf.is_false() == wanted {
+            break;
+        }
+        qbf = random_qbf(rng);
+    }
+    qbf
+}
+
 // ---------------------------------------------------------- certificates
 
 #[derive(Clone, Debug, Default)]
-struct Expansion {
+pub(crate) struct Expansion {
     /// Copies by existential and annotation.
     copies: BTreeMap<(i64, Vec<i64>), i64>,
-    clauses: Vec<(Vec<i64>, usize)>,
-    used: BTreeSet<i64>,
+    /// Clauses, and the number of the matrix clause that each is of.
+    pub(crate) clauses: Vec<(Vec<i64>, usize)>,
+    pub(crate) used: BTreeSet<i64>,
     sparse: bool,
 }
 
@@ -262,7 +305,7 @@ impl Expansion {
 }
 
 /// The expansion by all assignments of the universals, or by partial ones.
-fn expand(rng: &mut Rng, qbf: &Qbf) -> Expansion {
+pub(crate) fn expand(rng: &mut Rng, qbf: &Qbf) -> Expansion {
     let order = qbf.order();
     let universals: Vec<i64> = order.iter().filter(|(u, _)| *u).map(|(_, v)| *v).collect();
     let mut expansion = Expansion { sparse: rng.chance(1, 6), ..Expansion::default() };
@@ -370,7 +413,7 @@ fn refute(
 }
 
 struct Certificate {
-    mapping: Vec<(Vec<i64>, Vec<i64>, Vec<i64>)>,
+    mapping: Vec<MappingLine>,
     hints: Option<Vec<i64>>,
     expansions: Vec<Vec<i64>>,
     /// Deletion or not, literals.
@@ -379,13 +422,7 @@ struct Certificate {
 
 impl Certificate {
     fn lines(&self) -> Vec<Line> {
-        let mut file = Vec::new();
-        for (copies, existentials, annotation) in &self.mapping {
-            let mut line = numbers("x", copies);
-            line.extend(numbers("", existentials));
-            line.extend(numbers("", annotation));
-            file.push(line);
-        }
+        let mut file = mapping_lines(&self.mapping);
         if let Some(hints) = &self.hints {
             file.push(numbers("o", hints));
         }
@@ -444,7 +481,7 @@ fn subsumes(small: &[i64], large: &[i64]) -> bool {
     small.iter().all(|l| large.contains(l))
 }
 
-fn random_clause(rng: &mut Rng, copies: &[i64], most: usize) -> Vec<i64> {
+pub(crate) fn random_clause(rng: &mut Rng, copies: &[i64], most: usize) -> Vec<i64> {
     let mut clause: Vec<i64> = Vec::new();
     for _ in 0..1 + rng.below(most) {
         let variable = if copies.is_empty() || rng.chance(1, 12) { rng.between(1, 30) } else { *rng.pick(copies) };
@@ -456,15 +493,23 @@ fn random_clause(rng: &mut Rng, copies: &[i64], most: usize) -> Vec<i64> {
     clause
 }
 
-/// A certificate that breaks no rule; it closes if the formula is false and
-/// the search came to an end.
-fn right_certificate(rng: &mut Rng, qbf: &Qbf) -> Certificate {
-    let mut expansion = expand(rng, qbf);
-    if rng.chance(1, 4) {
-        rng.shuffle(&mut expansion.clauses);
-    }
-    // Mapping lines: copies of one annotation may share a line.
-    let mut mapping: Vec<(Vec<i64>, Vec<i64>, Vec<i64>)> = Vec::new();
+/// Copies, existentials, annotation.
+type MappingLine = (Vec<i64>, Vec<i64>, Vec<i64>);
+
+pub(crate) fn mapping_lines(mapping: &[MappingLine]) -> Vec<Line> {
+    let line = |(copies, existentials, annotation): &MappingLine| {
+        let mut line = numbers("x", copies);
+        line.extend(numbers("", existentials));
+        line.extend(numbers("", annotation));
+        line
+    };
+    mapping.iter().map(line).collect()
+}
+
+/// Mapping lines: copies of one annotation may share a line. Some pairs get
+/// more copies than one.
+pub(crate) fn mapping_for(rng: &mut Rng, expansion: &mut Expansion) -> Vec<MappingLine> {
+    let mut mapping: Vec<MappingLine> = Vec::new();
     let share = rng.chance(1, 2);
     for ((existential, annotation), copy) in &expansion.copies {
         let mut written = annotation.clone();
@@ -506,6 +551,17 @@ fn right_certificate(rng: &mut Rng, qbf: &Qbf) -> Certificate {
     if rng.chance(1, 12) {
         mapping.push((vec![], vec![], vec![]));
     }
+    mapping
+}
+
+/// A certificate that breaks no rule; it closes if the formula is false and
+/// the search came to an end.
+fn right_certificate(rng: &mut Rng, qbf: &Qbf) -> Certificate {
+    let mut expansion = expand(rng, qbf);
+    if rng.chance(1, 4) {
+        rng.shuffle(&mut expansion.clauses);
+    }
+    let mapping = mapping_for(rng, &mut expansion);
     let expansions: Vec<Vec<i64>> = expansion.clauses.iter().map(|(c, _)| c.clone()).collect();
     let hints = rng.chance(1, 2).then(|| expansion.clauses.iter().map(|(_, n)| *n as i64).collect());
 
@@ -624,25 +680,25 @@ const ODD: &[&str] = &[
     "1\u{0}",
 ];
 
-fn is_number(token: &str) -> bool {
+pub(crate) fn is_number(token: &str) -> bool {
     token.parse::<i64>().is_ok()
 }
 
-fn with_head(file: &[Line], heads: &[&str]) -> Vec<usize> {
+pub(crate) fn with_head(file: &[Line], heads: &[&str]) -> Vec<usize> {
     (0..file.len()).filter(|i| heads.contains(&file[*i].first().map_or("", |t| t.as_str()))).collect()
 }
 
-fn clause_lines(file: &[Line]) -> Vec<usize> {
+pub(crate) fn clause_lines(file: &[Line]) -> Vec<usize> {
     (0..file.len()).filter(|i| file[*i].first().is_some_and(|t| is_number(t))).collect()
 }
 
 /// A place in a line between its head and its end.
-fn number_place(rng: &mut Rng, line: &Line) -> Option<usize> {
+pub(crate) fn number_place(rng: &mut Rng, line: &Line) -> Option<usize> {
     let places: Vec<usize> = (0..line.len()).filter(|i| is_number(&line[*i]) && line[*i] != "0").collect();
     (!places.is_empty()).then(|| *rng.pick(&places))
 }
 
-fn damage_tokens(rng: &mut Rng, file: &mut Vec<Line>) {
+pub(crate) fn damage_tokens(rng: &mut Rng, file: &mut Vec<Line>) {
     if file.is_empty() {
         file.push(vec!["0".into()]);
         return;
@@ -689,7 +745,7 @@ fn damage_tokens(rng: &mut Rng, file: &mut Vec<Line>) {
     }
 }
 
-fn damage_lines(rng: &mut Rng, file: &mut Vec<Line>) {
+pub(crate) fn damage_lines(rng: &mut Rng, file: &mut Vec<Line>) {
     if file.is_empty() {
         return;
     }
@@ -717,7 +773,7 @@ fn damage_lines(rng: &mut Rng, file: &mut Vec<Line>) {
     }
 }
 
-fn damage_bytes(rng: &mut Rng, bytes: &mut Vec<u8>) {
+pub(crate) fn damage_bytes(rng: &mut Rng, bytes: &mut Vec<u8>) {
     for _ in 0..1 + rng.below(2) {
         let at = rng.below(bytes.len() + 1);
         let new = match rng.below(3) {
@@ -737,7 +793,7 @@ fn damage_bytes(rng: &mut Rng, bytes: &mut Vec<u8>) {
 }
 
 /// Damage aimed at one number. `None` if the files offer no place for it.
-fn aim(rng: &mut Rng, number: usize, formula: &mut Vec<Line>, certificate: &mut Vec<Line>) -> Option<()> {
+pub(crate) fn aim(rng: &mut Rng, number: usize, formula: &mut Vec<Line>, certificate: &mut Vec<Line>) -> Option<()> {
     let e_lines = with_head(certificate, &["e"]);
     let x_lines = with_head(certificate, &["x"]);
     let o_lines = with_head(certificate, &["o"]);
@@ -1038,7 +1094,7 @@ fn aim(rng: &mut Rng, number: usize, formula: &mut Vec<Line>, certificate: &mut 
 }
 
 /// Two faults in one line, for the order of refusals within a line.
-fn twofold(rng: &mut Rng, formula: &mut Vec<Line>, certificate: &mut Vec<Line>) -> Option<()> {
+pub(crate) fn twofold(rng: &mut Rng, formula: &mut Vec<Line>, certificate: &mut Vec<Line>) -> Option<()> {
     let e_lines = with_head(certificate, &["e"]);
     let x_lines = with_head(certificate, &["x"]);
     let o_lines = with_head(certificate, &["o"]);
@@ -1144,6 +1200,17 @@ fn pad(rng: &mut Rng, bytes: &mut Vec<u8>) {
         bytes.splice(0..0, filling);
     } else {
         bytes.extend(filling);
+    }
+}
+
+/// One of the files at its limit, or both.
+pub(crate) fn pad_one(rng: &mut Rng, formula: &mut Vec<u8>, certificate: &mut Vec<u8>) {
+    let which = rng.below(5);
+    if which < 3 {
+        pad(rng, formula);
+    }
+    if which > 1 {
+        pad(rng, certificate);
     }
 }
 
@@ -1300,8 +1367,8 @@ fn limit_case(rng: &mut Rng) -> (Vec<u8>, Vec<u8>) {
 
 // ----------------------------------------------------------------- cases
 
-fn lengths_for(rng: &mut Rng, formula: &[u8], certificate: &[u8], tight: bool) -> [usize; 6] {
-    let needs = reference::check(formula, certificate, ENDLESS).needs;
+pub(crate) fn lengths_for(rng: &mut Rng, kind: Kind, formula: &[u8], certificate: &[u8], tight: bool) -> [usize; 6] {
+    let needs = kind.check(formula, certificate, reference::ENDLESS).needs;
     let mut lengths = needs.map(|need| need + 64);
     if !tight {
         return match rng.below(3) {
@@ -1345,11 +1412,7 @@ fn lengths_for(rng: &mut Rng, formula: &[u8], certificate: &[u8], tight: bool) -
 
 /// The case of this seed and index.
 pub fn case(seed: u64, index: u64) -> Case {
-    let mut rng = Rng::new(seed.wrapping_mul(0x1_0000_0001).wrapping_add(index.wrapping_mul(0x9e37_79b9)));
-    let rng = &mut rng;
-    for _ in 0..3 {
-        rng.next();
-    }
+    let rng = &mut Rng::of_case(seed, index);
     if rng.chance(1, 14) {
         let (mut formula, mut certificate) = limit_case(rng);
         if rng.chance(1, 6) {
@@ -1359,23 +1422,16 @@ pub fn case(seed: u64, index: u64) -> Case {
             damage_bytes(rng, &mut certificate);
         }
         let tight = rng.chance(1, 5);
-        let lengths = lengths_for(rng, &formula, &certificate, tight);
-        return Case { kind: "limit", formula, certificate, lengths };
+        let lengths = lengths_for(rng, Kind::Ferat, &formula, &certificate, tight);
+        return Case { kind: Kind::Ferat, damage: "limit", formula, certificate, lengths };
     }
 
-    let mut qbf = random_qbf(rng);
-    let wanted = rng.chance(9, 10);
-    for _ in 0..8 {
-        if qbf.is_false() == wanted {
-            break;
-        }
-        qbf = random_qbf(rng);
-    }
+    let qbf = mostly_false(rng);
     let certificate = right_certificate(rng, &qbf);
     let mut formula_lines = qbf.lines();
     let mut certificate_lines = certificate.lines();
 
-    let mut kind = "right";
+    let mut damage = "right";
     let mut tight = false;
     let mut padded = false;
     let mut bytes = false;
@@ -1384,24 +1440,24 @@ pub fn case(seed: u64, index: u64) -> Case {
         3 => padded = rng.chance(2, 3),
         4 | 5 => tight = true,
         6 => {
-            kind = "lines";
+            damage = "lines";
             damage_lines(rng, &mut certificate_lines);
         }
         7 => {
-            kind = "formula lines";
+            damage = "formula lines";
             damage_lines(rng, &mut formula_lines);
         }
         8 => {
-            kind = "tokens";
+            damage = "tokens";
             damage_tokens(rng, &mut certificate_lines);
         }
         9 => {
-            kind = "formula tokens";
+            damage = "formula tokens";
             damage_tokens(rng, &mut formula_lines);
         }
         10 | 11 => bytes = true,
         which => {
-            kind = "aimed";
+            damage = "aimed";
             let number = rng.one(&[2, 3, 3, 4, 5, 6, 7, 7, 8, 8, 9, 10, 10, 11, 12, 12, 12, 12, 13, 14]);
             for _ in 0..4 {
                 if aim(rng, number, &mut formula_lines, &mut certificate_lines).is_some() {
@@ -1410,7 +1466,7 @@ pub fn case(seed: u64, index: u64) -> Case {
             }
             tight = rng.chance(1, 10);
             if which == 25 || which == 26 {
-                kind = "twofold";
+                damage = "twofold";
                 formula_lines = qbf.lines();
                 certificate_lines = certificate.lines();
                 for _ in 0..4 {
@@ -1422,7 +1478,7 @@ pub fn case(seed: u64, index: u64) -> Case {
             }
             if which == 27 {
                 // A second damage, for the order of refusals.
-                kind = "aimed twice";
+                damage = "aimed twice";
                 let number = *rng.pick(&[2, 3, 4, 5, 6, 7, 8, 9, 10, 11, 12, 13, 14]);
                 if formula_lines.first().is_some_and(|line| line.len() == 4) {
                     aim(rng, number, &mut formula_lines, &mut certificate_lines);
@@ -1434,32 +1490,26 @@ pub fn case(seed: u64, index: u64) -> Case {
     let mut formula = render(rng, &formula_lines);
     let mut certificate = render(rng, &certificate_lines);
     if bytes {
-        kind = "bytes";
+        damage = "bytes";
         damage_bytes(rng, if rng.clone().chance(1, 3) { &mut formula } else { &mut certificate });
     }
     if padded {
-        kind = "padded";
-        let which = rng.below(5);
-        if which < 3 {
-            pad(rng, &mut formula);
-        }
-        if which > 1 {
-            pad(rng, &mut certificate);
-        }
+        damage = "padded";
+        pad_one(rng, &mut formula, &mut certificate);
     }
     if tight {
-        kind = match kind {
+        damage = match damage {
             "right" => "tight",
             "twofold" => "twofold tight",
             _ => "aimed tight",
         };
     }
-    let lengths = lengths_for(rng, &formula, &certificate, tight);
-    Case { kind, formula, certificate, lengths }
+    let lengths = lengths_for(rng, Kind::Ferat, &formula, &certificate, tight);
+    Case { kind: Kind::Ferat, damage, formula, certificate, lengths }
 }
 
 /// The tokens of a file's lines; comments and empty lines are left out.
-fn tokens(file: &[u8]) -> Vec<Line> {
+pub(crate) fn tokens(file: &[u8]) -> Vec<Line> {
     let text = String::from_utf8_lossy(file).into_owned();
     let lines = text.lines().map(|line| line.split_whitespace().map(str::to_string).collect::<Line>());
     lines.filter(|line| line.first().is_some_and(|word| !word.starts_with('c'))).collect()
@@ -1489,17 +1539,45 @@ pub fn damaged(rng: &mut Rng, formula: &[u8], certificate: &[u8]) -> (Vec<u8>, V
     (formula, certificate)
 }
 
-/// The stored pairs: name, formula, certificate, expected verdict. The file
-/// `EXPECTED` has a name, a blank and a verdict on each line.
-pub fn data(folder: &Path) -> Result<Vec<(String, Vec<u8>, Vec<u8>, String)>, String> {
+/// A stored pair with the verdict that is due.
+pub struct Stored {
+    pub kind: Kind,
+    /// That of the certificate's file.
+    pub name: String,
+    pub formula: Vec<u8>,
+    pub certificate: Vec<u8>,
+    pub expected: String,
+}
+
+impl Stored {
+    pub fn files(&self) -> Files<'_> {
+        Files { kind: self.kind, formula: &self.formula, certificate: &self.certificate }
+    }
+
+    /// The same, damaged.
+    pub fn damaged(&self, rng: &mut Rng) -> (Vec<u8>, Vec<u8>) {
+        match self.kind {
+            Kind::Ferat => damaged(rng, &self.formula, &self.certificate),
+            Kind::Ferp => ferp_corpus::damaged(rng, &self.formula, &self.certificate),
+        }
+    }
+}
+
+/// The stored pairs. The file `EXPECTED` has a certificate's name, a blank
+/// and a verdict on each line; `NAME.qdimacs` is the formula of `NAME.ferat`
+/// and of `NAME.ferp`.
+pub fn data(folder: &Path) -> Result<Vec<Stored>, String> {
     let read = |name: &str| std::fs::read(folder.join(name)).map_err(|error| format!("{name}: {error}"));
     let list = String::from_utf8(read("EXPECTED")?).map_err(|error| error.to_string())?;
     let mut pairs = Vec::new();
     for line in list.lines().filter(|line| !line.is_empty() && !line.starts_with('#')) {
-        let (name, verdict) = line.split_once(' ').ok_or_else(|| format!("EXPECTED: {line}"))?;
-        let formula = read(&format!("{name}.qdimacs"))?;
-        let certificate = read(&format!("{name}.ferat"))?;
-        pairs.push((name.to_string(), formula, certificate, verdict.trim().to_string()));
+        let wrong = || format!("EXPECTED: {line}");
+        let (name, expected) = line.split_once(' ').ok_or_else(wrong)?;
+        let (stem, ending) = name.rsplit_once('.').ok_or_else(wrong)?;
+        let kind = Kind::ALL.into_iter().find(|kind| kind.name() == ending).ok_or_else(wrong)?;
+        let formula = read(&format!("{stem}.qdimacs"))?;
+        let (name, expected) = (name.to_string(), expected.trim().to_string());
+        pairs.push(Stored { kind, certificate: read(&name)?, name, formula, expected });
     }
     Ok(pairs)
 }

@@ -2,7 +2,10 @@
 //! twelve checks first, then the edges of its sentences. Points of NOTES.md
 //! are named by their number at the head of a case's name.
 
+use crate::Kind;
+
 pub struct Fixed {
+    pub kind: Kind,
     pub name: String,
     pub formula: Vec<u8>,
     pub certificate: Vec<u8>,
@@ -12,14 +15,14 @@ pub struct Fixed {
 }
 
 /// `/` stands for byte 10.
-fn bytes(text: &str) -> Vec<u8> {
+pub(crate) fn bytes(text: &str) -> Vec<u8> {
     text.bytes().map(|byte| if byte == b'/' { 10 } else { byte }).collect()
 }
 
 pub const A: &str = "p cnf 2 2/a 1 0/e 2 0/1 2 0/1 -2 0/";
 pub const A_PROOF: &str = "x 1 0 2 0 -1 0/o 1 2 0/e 1 0/e -1 0/0/";
 pub const B: &str = "p cnf 0 0/";
-const F12: &str = "p cnf 2 2/a 1 0/e 2 0/1 2 0/-1 -2 0/";
+pub(crate) const F12: &str = "p cnf 2 2/a 1 0/e 2 0/1 2 0/-1 -2 0/";
 /// Figure 2 of source document 000.
 pub const FIGURE_2: &str = "p cnf 3 3/e 1 0/a 2 0/e 3 0/1 2 3 0/-1 -2 3 0/-3 0/";
 pub const FIGURE_2_PROOF: &str = "x 1 0 1 0 0/x 2 0 3 0 2 0/x 3 0 3 0 -2 0/o 1 2 3 3 0/e 1 3 0/e -1 2 0/e -3 0/e -2 0/0/";
@@ -27,7 +30,12 @@ pub const FIGURE_2_PROOF: &str = "x 1 0 1 0 0/x 2 0 3 0 2 0/x 3 0 3 0 -2 0/o 1 2
 const AMPLE: [usize; 6] = [16_384; 6];
 
 /// Name, formula, certificate, verdict; tables of 16,384 places.
-const TWELVE: &[(&str, &str, &str, &str)] = &[
+pub(crate) type Plain = (&'static str, &'static str, &'static str, &'static str);
+
+/// Name, formula, certificate, lengths, verdict, needs.
+pub(crate) type Needing = (&'static str, &'static str, &'static str, [usize; 6], &'static str, [usize; 6]);
+
+const TWELVE: &[Plain] = &[
     ("check 1", A, A_PROOF, "accepted,0,0,0,2,1,0"),
     ("check 2", A, "x 1 0 2 0 1 0/o 1 2 0/e 1 0/e -1 0/0/", "refused,11,2,3,0,0,0"),
     ("check 3", A, "x 1 0 2 0 -1 0/e 1 0/e -1 0/0/", "accepted,0,0,0,2,1,0"),
@@ -42,10 +50,10 @@ const TWELVE: &[(&str, &str, &str, &str)] = &[
     ("check 12", F12, "x 1 0 2 0 0/e 1 0/", "refused,11,2,2,0,0,0"),
 ];
 
-const U: &str = "p cnf 5 2/a 1 0/e 2 0/a 3 0/e 4 0/2 4 0/1 -3 4 0/";
-const E1: &str = "p cnf 1 2/e 1 0/1 0/-1 0/";
+pub(crate) const U: &str = "p cnf 5 2/a 1 0/e 2 0/a 3 0/e 4 0/2 4 0/1 -3 4 0/";
+pub(crate) const E1: &str = "p cnf 1 2/e 1 0/1 0/-1 0/";
 
-const EDGES: &[(&str, &str, &str, &str)] = &[
+const EDGES: &[Plain] = &[
     ("figure 2", FIGURE_2, FIGURE_2_PROOF, "accepted,0,0,0,4,1,0"),
     ("check 12 whole", F12, "x 1 0 2 0 0/e 1 0/e -1 0/0/", "refused,11,2,2,0,0,0"),
     // Lines and blanks.
@@ -245,9 +253,7 @@ const EDGES: &[(&str, &str, &str, &str)] = &[
     ("11 additions after the empty clause are judged", E1, "x 1 0 1 0 0/e 1 0/e -1 0/0/d 0/d 1 0/7 0/-7 0/", "refused,12,2,8,2,2,2"),
 ];
 
-/// Name, formula, certificate, lengths, verdict, needs.
-#[allow(clippy::type_complexity)]
-const NEEDS: &[(&str, &str, &str, [usize; 6], &str, [usize; 6])] = &[
+const NEEDS: &[Needing] = &[
     ("12 A fits", A, A_PROOF, [2, 6, 6, 8, 3, 1], "accepted,0,0,0,2,1,0", [2, 6, 6, 8, 3, 1]),
     ("12 A, prefix short", A, A_PROOF, [1, 6, 6, 8, 3, 1], "refused,15,1,1,0,0,0", [2, 0, 0, 0, 0, 0]),
     ("12 A, matrix short", A, A_PROOF, [2, 5, 6, 8, 3, 1], "refused,15,1,5,0,0,0", [2, 6, 0, 0, 0, 0]),
@@ -285,57 +291,51 @@ const NEEDS: &[(&str, &str, &str, [usize; 6], &str, [usize; 6])] = &[
     ("12 a malformed line adds nothing", B, "9 9 9/", [0; 6], "refused,2,2,1,0,0,0", [0; 6]),
 ];
 
-fn plain(list: &[(&str, &str, &str, &str)]) -> Vec<Fixed> {
+pub(crate) fn plain(kind: Kind, list: &[Plain]) -> Vec<Fixed> {
+    list.iter().map(|(name, formula, certificate, expected)| made(kind, name, bytes(formula), bytes(certificate), expected)).collect()
+}
+
+pub(crate) fn needing(kind: Kind, list: &[Needing]) -> Vec<Fixed> {
     list.iter()
-        .map(|(name, formula, certificate, expected)| Fixed {
-            name: name.to_string(),
-            formula: bytes(formula),
-            certificate: bytes(certificate),
-            lengths: AMPLE,
-            expected: expected.to_string(),
-            needs: None,
+        .map(|(name, formula, certificate, lengths, expected, needs)| Fixed {
+            lengths: *lengths,
+            needs: Some(*needs),
+            ..made(kind, name, bytes(formula), bytes(certificate), expected)
         })
         .collect()
 }
 
-/// The twelve checks of document 01.
-pub fn twelve() -> Vec<Fixed> {
-    plain(TWELVE)
+/// A case in tables of 16,384 places.
+pub(crate) fn made(kind: Kind, name: &str, formula: Vec<u8>, certificate: Vec<u8>, expected: &str) -> Fixed {
+    Fixed { kind, name: name.to_string(), formula, certificate, lengths: AMPLE, expected: expected.to_string(), needs: None }
 }
 
-/// All fixed cases.
+/// The file, made so long by this byte.
+pub(crate) fn padded(head: &[u8], length: usize, byte: u8) -> Vec<u8> {
+    let mut file = head.to_vec();
+    file.resize(length, byte);
+    file
+}
+
+/// The twelve checks of document 01.
+pub fn twelve() -> Vec<Fixed> {
+    plain(Kind::Ferat, TWELVE)
+}
+
+/// All fixed cases of FERAT certificates.
 pub fn cases() -> Vec<Fixed> {
-    let mut list = plain(TWELVE);
-    list.extend(plain(EDGES));
-    list.extend(NEEDS.iter().map(|(name, formula, certificate, lengths, expected, needs)| Fixed {
-        name: name.to_string(),
-        formula: bytes(formula),
-        certificate: bytes(certificate),
-        lengths: *lengths,
-        expected: expected.to_string(),
-        needs: Some(*needs),
-    }));
+    let mut list = twelve();
+    list.extend(plain(Kind::Ferat, EDGES));
+    list.extend(needing(Kind::Ferat, NEEDS));
     // Bytes that no text holds.
     let mut odd = |name: &str, formula: Vec<u8>, certificate: Vec<u8>, expected: &str| {
-        list.push(Fixed {
-            name: name.to_string(),
-            formula,
-            certificate,
-            lengths: AMPLE,
-            expected: expected.to_string(),
-            needs: None,
-        });
+        list.push(made(Kind::Ferat, name, formula, certificate, expected));
     };
     odd("1 byte 255 is no blank", b"p cnf 0 1\n\xff0\n".to_vec(), b"e 0\n".to_vec(), "refused,2,1,2,0,0,0");
     odd("1 byte 160 is no blank", b"p cnf 0 1\n0\xa0\n".to_vec(), b"e 0\n".to_vec(), "refused,2,1,2,0,0,0");
     odd("1 any byte in a skipped line", b"c\x00\xff\np cnf 0 1\n0\n".to_vec(), b"c\xff\ne 0".to_vec(), "accepted,0,0,0,1,0,0");
     // Lengths of files.
     let limit = 1_048_576;
-    let padded = |head: &[u8], length: usize, byte: u8| {
-        let mut file = head.to_vec();
-        file.resize(length, byte);
-        file
-    };
     let formula = b"p cnf 0 1\n0\n";
     odd("13 formula at its limit", padded(formula, limit, 32), b"e 0\n".to_vec(), "accepted,0,0,0,1,0,0");
     odd("13 formula above", padded(formula, limit + 1, 32), b"e 0\n".to_vec(), "refused,1,1,0,0,0,0");

@@ -1,19 +1,29 @@
 use outside::boundary::{self, Comparison, Reference};
-use outside::{corpus, reference};
+use outside::corpus::Case;
+use outside::{reference, Kind};
 use std::path::Path;
 
 const USAGE: &str = "usage: outside spread [COUNT [SEED]]
        outside check FORMULA CERTIFICATE [SIX LENGTHS]
-       outside case SEED INDEX FOLDER
+       outside case ferat|ferp SEED INDEX FOLDER
        outside data [FOLDER]
        outside program PROGRAM FOLDER [COUNT [SEED]]
        outside verdict";
+
+/// The kind that a word or a file's name ends in; FERAT else.
+fn kind_of(name: &str) -> Kind {
+    if name.ends_with(Kind::Ferp.name()) {
+        Kind::Ferp
+    } else {
+        Kind::Ferat
+    }
+}
 
 fn main() {
     let arguments: Vec<String> = std::env::args().skip(1).collect();
     let number = |place: usize, other: u64| arguments.get(place).and_then(|text| text.parse().ok()).unwrap_or(other);
     match arguments.first().map(|text| text.as_str()) {
-        Some("spread") => spread(number(1, 20_000), number(2, 1)),
+        Some("spread") => Kind::ALL.into_iter().for_each(|kind| spread(kind, number(1, 20_000), number(2, 1))),
         Some("check") if arguments.len() >= 3 => {
             let formula = std::fs::read(&arguments[1]).unwrap_or_default();
             let certificate = std::fs::read(&arguments[2]).unwrap_or_default();
@@ -21,16 +31,17 @@ fn main() {
             for (table, length) in lengths.iter_mut().enumerate() {
                 *length = number(3 + table, u64::MAX) as usize;
             }
-            let report = reference::check(&formula, &certificate, lengths);
+            let report = kind_of(&arguments[2]).check(&formula, &certificate, lengths);
             println!("{}", report.verdict.text());
             println!("needs {:?}", report.needs);
         }
-        Some("case") if arguments.len() == 4 => {
-            let case = corpus::case(number(1, 1), number(2, 0));
-            let folder = Path::new(&arguments[3]);
+        Some("case") if arguments.len() == 5 => {
+            let kind = kind_of(&arguments[1]);
+            let case = Case::of(kind, number(2, 1), number(3, 0));
+            let folder = Path::new(&arguments[4]);
             std::fs::write(folder.join("formula.qdimacs"), &case.formula).unwrap();
-            std::fs::write(folder.join("proof.ferat"), &case.certificate).unwrap();
-            println!("{} lengths {:?}", case.kind, case.lengths);
+            std::fs::write(folder.join(format!("proof.{}", kind.name())), &case.certificate).unwrap();
+            println!("{} lengths {:?}", case.damage, case.lengths);
         }
         Some("data") => {
             let folder = arguments.get(1).cloned().unwrap_or(concat!(env!("CARGO_MANIFEST_DIR"), "/data").to_string());
@@ -62,38 +73,36 @@ fn main() {
     }
 }
 
-/// How often each number occurs, and in which kinds of cases.
-fn spread(count: u64, seed: u64) {
-    let mut numbers = [0u64; 16];
-    let mut kinds: std::collections::BTreeMap<&str, [u64; 16]> = Default::default();
+/// A row of counts under a word.
+fn row(word: &str, counts: &[u64]) {
+    print!("{word:>16}");
+    counts.iter().for_each(|n| print!("{n:>6}"));
+    println!();
+}
+
+/// How often each number occurs, and in which kinds of damage.
+fn spread(kind: Kind, count: u64, seed: u64) {
+    let mut damages: std::collections::BTreeMap<&str, [u64; 18]> = Default::default();
     let mut accepted = [0u64; 4];
     for index in 0..count {
-        let case = corpus::case(seed, index);
-        let report = reference::check(&case.formula, &case.certificate, case.lengths);
-        numbers[report.verdict.number as usize] += 1;
-        if report.verdict.number == 0 {
-            accepted[0] += u64::from(report.verdict.expansions > 4);
-            accepted[1] += u64::from(report.verdict.additions > 2);
-            accepted[2] += u64::from(report.verdict.additions > 8);
-            accepted[3] += u64::from(report.verdict.deletions > 0);
+        let case = Case::of(kind, seed, index);
+        let verdict = case.files().report(case.lengths).verdict;
+        if verdict.number == 0 {
+            accepted[0] += u64::from(verdict.expansions > 4);
+            accepted[1] += u64::from(verdict.additions > 2);
+            accepted[2] += u64::from(verdict.additions > 8);
+            accepted[3] += u64::from(verdict.deletions > 0);
         }
-        kinds.entry(case.kind).or_default()[report.verdict.number as usize] += 1;
+        damages.entry(case.damage).or_default()[verdict.number as usize] += 1;
     }
-    print!("{:>16}", "number");
-    for number in 0..16 {
-        print!("{number:>6}");
+    row(kind.name(), &std::array::from_fn::<u64, 18, _>(|number| number as u64));
+    damages.iter().for_each(|(damage, counts)| row(damage, counts));
+    row("all", &std::array::from_fn::<u64, 18, _>(|number| damages.values().map(|counts| counts[number]).sum()));
+    let [expansions, some, many, deletions] = accepted;
+    match kind {
+        Kind::Ferat => println!(
+            "accepted with over 4 expansions {expansions}, over 2 additions {some}, over 8 additions {many}, with deletions {deletions}"
+        ),
+        Kind::Ferp => println!("accepted with over 4 expansions {expansions}, over 2 resolutions {some}, over 8 resolutions {many}"),
     }
-    println!();
-    for (kind, row) in &kinds {
-        print!("{kind:>16}");
-        row.iter().for_each(|n| print!("{n:>6}"));
-        println!();
-    }
-    print!("{:>16}", "all");
-    numbers.iter().for_each(|n| print!("{n:>6}"));
-    println!();
-    println!(
-        "accepted with over 4 expansions {}, over 2 additions {}, over 8 additions {}, with deletions {}",
-        accepted[0], accepted[1], accepted[2], accepted[3]
-    );
 }

@@ -1,5 +1,7 @@
-//! The independent checker. Written from document 01 alone: plain data
-//! structures, one function for each paragraph of the document, no tables.
+//! The independent checker of FERAT certificates. Written from document 01
+//! alone: plain data structures, one function for each paragraph of the
+//! document, no tables. `ferp` shares its reading of formulas, its mapping
+//! lines and its judge of an expansion.
 //!
 //! Nothing here is fast on purpose. What is a set in the document is a
 //! `BTreeSet` here, and what is a total there is an addition here.
@@ -42,7 +44,9 @@ pub struct Verdict {
     pub file: u64,
     pub line: u64,
     pub expansions: u64,
+    /// Of a FERP file the resolutions.
     pub additions: u64,
+    /// Of a FERP file 0.
     pub deletions: u64,
 }
 
@@ -80,15 +84,15 @@ pub struct Report {
 
 /// A refusal: its number and its line.
 #[derive(Clone, Copy, Debug, PartialEq, Eq)]
-struct Refusal {
-    number: u64,
-    line: u64,
+pub(crate) struct Refusal {
+    pub(crate) number: u64,
+    pub(crate) line: u64,
 }
 
 // ---------------------------------------------------------------- lines
 
 /// The lines of a file: one more than there are bytes 10.
-fn lines(file: &[u8]) -> Vec<&[u8]> {
+pub(crate) fn lines(file: &[u8]) -> Vec<&[u8]> {
     file.split(|byte| *byte == 10).collect()
 }
 
@@ -97,7 +101,7 @@ fn is_blank(byte: u8) -> bool {
 }
 
 /// The tokens of a line, or `None` if the line is skipped.
-fn tokens(line: &[u8]) -> Option<Vec<&[u8]>> {
+pub(crate) fn tokens(line: &[u8]) -> Option<Vec<&[u8]>> {
     let found: Vec<&[u8]> = line.split(|byte| is_blank(*byte)).filter(|part| !part.is_empty()).collect();
     if found.is_empty() || found[0][0] == b'c' {
         None
@@ -128,12 +132,12 @@ fn natural(token: &[u8]) -> Option<i64> {
 }
 
 /// A number above 0.
-fn positive(token: &[u8]) -> Option<i64> {
+pub(crate) fn positive(token: &[u8]) -> Option<i64> {
     natural(token).filter(|value| *value > 0)
 }
 
 /// "A literal is a variable or its negative."
-fn literal(token: &[u8]) -> Option<i64> {
+pub(crate) fn literal(token: &[u8]) -> Option<i64> {
     match token.strip_prefix(b"-") {
         Some(rest) => positive(rest).map(|value| -value),
         None => positive(token),
@@ -141,7 +145,7 @@ fn literal(token: &[u8]) -> Option<i64> {
 }
 
 /// Items up to a closing `0`, which must be the only zero and the last token.
-fn closed_list(list: &[&[u8]], item: fn(&[u8]) -> Option<i64>) -> Option<Vec<i64>> {
+pub(crate) fn closed_list(list: &[&[u8]], item: fn(&[u8]) -> Option<i64>) -> Option<Vec<i64>> {
     let (last, items) = list.split_last()?;
     if *last != b"0" {
         return None;
@@ -282,30 +286,40 @@ fn formula_lines(file: &[u8], lengths: &[usize; 6], needs: &mut [usize; 6]) -> R
 
 // ---------------------------------------------------------- certificate
 
+/// `x P1..Pk 0 E1..Ek 0 L1..Lm 0`
+pub(crate) struct Mapping {
+    copies: Vec<i64>,
+    existentials: Vec<i64>,
+    annotation: Vec<i64>,
+}
+
 enum CertificateLine {
-    Mapping { copies: Vec<i64>, existentials: Vec<i64>, annotation: Vec<i64> },
+    Mapping(Mapping),
     Hints { clauses: Vec<i64> },
     Expansion { literals: Vec<i64> },
     Addition { literals: Vec<i64> },
     Deletion { literals: Vec<i64> },
 }
 
+/// The form of a line whose first token is `x`.
+pub(crate) fn mapping_form(line: &[&[u8]]) -> Option<Mapping> {
+    let zeros: Vec<usize> = (1..line.len()).filter(|index| line[*index] == b"0").collect();
+    if zeros.len() != 3 {
+        return None;
+    }
+    let copies = closed_list(&line[1..=zeros[0]], positive)?;
+    let existentials = closed_list(&line[zeros[0] + 1..=zeros[1]], positive)?;
+    let annotation = closed_list(&line[zeros[1] + 1..], literal)?;
+    if copies.len() != existentials.len() {
+        return None;
+    }
+    Some(Mapping { copies, existentials, annotation })
+}
+
 /// The form of a certificate line, or `None` if it has no allowed form.
 fn certificate_line(line: &[&[u8]]) -> Option<CertificateLine> {
     match line[0] {
-        b"x" => {
-            let zeros: Vec<usize> = (1..line.len()).filter(|index| line[*index] == b"0").collect();
-            if zeros.len() != 3 {
-                return None;
-            }
-            let copies = closed_list(&line[1..=zeros[0]], positive)?;
-            let existentials = closed_list(&line[zeros[0] + 1..=zeros[1]], positive)?;
-            let annotation = closed_list(&line[zeros[1] + 1..], literal)?;
-            if copies.len() != existentials.len() {
-                return None;
-            }
-            Some(CertificateLine::Mapping { copies, existentials, annotation })
-        }
+        b"x" => Some(CertificateLine::Mapping(mapping_form(line)?)),
         b"o" => Some(CertificateLine::Hints { clauses: closed_list(&line[1..], positive)? }),
         b"e" => Some(CertificateLine::Expansion { literals: closed_list(&line[1..], literal)? }),
         b"d" => Some(CertificateLine::Deletion { literals: closed_list(&line[1..], literal)? }),
@@ -318,6 +332,51 @@ fn certificate_line(line: &[&[u8]]) -> Option<CertificateLine> {
 pub struct Pair {
     pub existential: i64,
     pub annotation: BTreeSet<i64>,
+}
+
+/// The copies that are mapped, with what they stand for.
+pub(crate) type Map = HashMap<i64, Pair>;
+
+/// A mapping line of the right form and in its place: the number of its
+/// refusal, or its copies are mapped.
+pub(crate) fn map_copies(
+    formula: &Formula,
+    line: Mapping,
+    lengths: &[usize; 6],
+    needs: &mut [usize; 6],
+    map: &mut Map,
+) -> Result<(), u64> {
+    let Mapping { copies, existentials, annotation } = line;
+    if above(&copies, COPY_LIMIT) || above(&existentials, formula.highest) || above(&annotation, formula.highest) {
+        return Err(3);
+    }
+    needs[MAP] += copies.len() + existentials.len() + annotation.len() + 3;
+    raise(&mut needs[VALUES], &copies);
+    if full(needs, lengths) {
+        return Err(15);
+    }
+    let own: BTreeSet<i64> = copies.iter().copied().collect();
+    if own.len() < copies.len() || own.iter().any(|copy| map.contains_key(copy)) {
+        return Err(7);
+    }
+    let good_existentials = existentials.iter().all(|e| formula.is_existential(*e));
+    let good_annotation = annotation
+        .iter()
+        .all(|l| formula.is_universal(l.abs()) && existentials.iter().all(|e| formula.is_left(l.abs(), *e)));
+    let variables: BTreeSet<i64> = annotation.iter().map(|l| l.abs()).collect();
+    if !good_existentials || !good_annotation || variables.len() < annotation.len() {
+        return Err(8);
+    }
+    for (copy, existential) in copies.iter().zip(&existentials) {
+        map.insert(*copy, Pair { existential: *existential, annotation: annotation.iter().copied().collect() });
+    }
+    Ok(())
+}
+
+/// What the copies of a line stand for, and whether they have a minus; `None`
+/// if one is not mapped.
+pub(crate) fn looked_up(map: &Map, literals: &[i64]) -> Option<Vec<(Pair, bool)>> {
+    literals.iter().map(|l| map.get(&l.abs()).map(|pair| (pair.clone(), *l < 0))).collect()
 }
 
 /// Is the line an expansion of the clause?
@@ -509,10 +568,10 @@ enum Part {
 }
 
 #[derive(Clone, Copy, Debug, Default)]
-struct Counts {
-    expansions: u64,
-    additions: u64,
-    deletions: u64,
+pub(crate) struct Counts {
+    pub(crate) expansions: u64,
+    pub(crate) additions: u64,
+    pub(crate) deletions: u64,
 }
 
 fn raise(need: &mut usize, copies: &[i64]) {
@@ -521,11 +580,18 @@ fn raise(need: &mut usize, copies: &[i64]) {
     }
 }
 
-fn above(copies: &[i64], limit: i64) -> bool {
+/// A clause line's needs: its literals as written and so many places more.
+pub(crate) fn need_clause(needs: &mut [usize; 6], literals: &[i64], more: usize) {
+    needs[PROOF] += literals.len() + more;
+    needs[MARKS] += 1;
+    raise(&mut needs[VALUES], literals);
+}
+
+pub(crate) fn above(copies: &[i64], limit: i64) -> bool {
     copies.iter().any(|copy| copy.abs() > limit)
 }
 
-fn full(needs: &[usize; 6], lengths: &[usize; 6]) -> bool {
+pub(crate) fn full(needs: &[usize; 6], lengths: &[usize; 6]) -> bool {
     (0..6).any(|table| needs[table] > lengths[table])
 }
 
@@ -537,7 +603,7 @@ fn certificate_lines(
     counts: &mut Counts,
 ) -> Result<(), Refusal> {
     let mut part = Part::Mapping;
-    let mut map: HashMap<i64, Pair> = HashMap::new();
+    let mut map = Map::new();
     let mut hints: Option<Vec<i64>> = None;
     let mut standing = Standing::new();
 
@@ -546,36 +612,12 @@ fn certificate_lines(
         let Some(line) = tokens(line) else { continue };
         let Some(form) = certificate_line(&line) else { return refuse(2) };
         match form {
-            CertificateLine::Mapping { copies, existentials, annotation } => {
+            CertificateLine::Mapping(mapping) => {
                 if part != Part::Mapping {
                     return refuse(2);
                 }
-                if above(&copies, COPY_LIMIT)
-                    || above(&existentials, formula.highest)
-                    || above(&annotation, formula.highest)
-                {
-                    return refuse(3);
-                }
-                needs[MAP] += copies.len() + existentials.len() + annotation.len() + 3;
-                raise(&mut needs[VALUES], &copies);
-                if full(needs, lengths) {
-                    return refuse(15);
-                }
-                let own: BTreeSet<i64> = copies.iter().copied().collect();
-                if own.len() < copies.len() || own.iter().any(|copy| map.contains_key(copy)) {
-                    return refuse(7);
-                }
-                let good_existentials = existentials.iter().all(|e| formula.is_existential(*e));
-                let good_annotation = annotation.iter().all(|l| {
-                    formula.is_universal(l.abs()) && existentials.iter().all(|e| formula.is_left(l.abs(), *e))
-                });
-                let variables: BTreeSet<i64> = annotation.iter().map(|l| l.abs()).collect();
-                if !good_existentials || !good_annotation || variables.len() < annotation.len() {
-                    return refuse(8);
-                }
-                for (copy, existential) in copies.iter().zip(&existentials) {
-                    let pair = Pair { existential: *existential, annotation: annotation.iter().copied().collect() };
-                    map.insert(*copy, pair);
+                if let Err(number) = map_copies(formula, mapping, lengths, needs, &mut map) {
+                    return refuse(number);
                 }
             }
             CertificateLine::Hints { clauses } => {
@@ -599,16 +641,11 @@ fn certificate_lines(
                 if above(&literals, COPY_LIMIT) {
                     return refuse(3);
                 }
-                needs[PROOF] += literals.len() + 1;
-                needs[MARKS] += 1;
-                raise(&mut needs[VALUES], &literals);
+                need_clause(needs, &literals, 1);
                 if full(needs, lengths) {
                     return refuse(15);
                 }
-                if literals.iter().any(|l| !map.contains_key(&l.abs())) {
-                    return refuse(9);
-                }
-                let mapped: Vec<(Pair, bool)> = literals.iter().map(|l| (map[&l.abs()].clone(), *l < 0)).collect();
+                let Some(mapped) = looked_up(&map, &literals) else { return refuse(9) };
                 let expands = match &hints {
                     Some(named) => match named.get(counts.expansions as usize) {
                         None => return refuse(10),
@@ -627,9 +664,7 @@ fn certificate_lines(
                 if above(&literals, COPY_LIMIT) {
                     return refuse(3);
                 }
-                needs[PROOF] += literals.len() + 1;
-                needs[MARKS] += 1;
-                raise(&mut needs[VALUES], &literals);
+                need_clause(needs, &literals, 1);
                 if full(needs, lengths) {
                     return refuse(15);
                 }
@@ -682,46 +717,39 @@ fn report(file: u64, end: Result<(), Refusal>, counts: Counts, needs: [usize; 6]
     Report { verdict: Verdict { word, number, file, line, expansions, additions, deletions }, needs }
 }
 
-/// The check, with limits on the lengths of the two files.
-pub fn check_within(
-    formula: &[u8],
-    certificate: &[u8],
-    lengths: [usize; 6],
-    formula_limit: usize,
-    certificate_limit: usize,
-) -> Report {
+/// All lines of a certificate and its end, the formula being read.
+pub(crate) type Certificate =
+    fn(&Formula, &[u8], &[usize; 6], &mut [usize; 6], &mut Counts) -> Result<(), Refusal>;
+
+/// A check, with limits on the lengths of the two files.
+pub(crate) fn check_within(files: [&[u8]; 2], lengths: [usize; 6], limits: [usize; 2], certificate: Certificate) -> Report {
     let mut needs = [0; 6];
     let mut counts = Counts::default();
     let overlong = Err(Refusal { number: 1, line: 0 });
-    if formula.len() > formula_limit {
+    if files[0].len() > limits[0] {
         return report(1, overlong, counts, needs);
     }
-    if certificate.len() > certificate_limit {
+    if files[1].len() > limits[1] {
         return report(2, overlong, counts, needs);
     }
-    let read = match formula_lines(formula, &lengths, &mut needs) {
+    let read = match formula_lines(files[0], &lengths, &mut needs) {
         Ok(read) => read,
         Err(refusal) => return report(1, Err(refusal), counts, needs),
     };
-    let end = certificate_lines(&read, certificate, &lengths, &mut needs, &mut counts);
+    let end = certificate(&read, files[1], &lengths, &mut needs, &mut counts);
     report(2, end, counts, needs)
 }
 
 /// The check of document 01.
 pub fn check(formula: &[u8], certificate: &[u8], lengths: [usize; 6]) -> Report {
-    check_within(formula, certificate, lengths, FILE_LIMIT, FILE_LIMIT)
+    check_within([formula, certificate], lengths, [FILE_LIMIT; 2], certificate_lines)
 }
 
 /// What the program `verdict` prints. A file that won't open is `None`.
 pub fn program(formula: Option<&[u8]>, certificate: Option<&[u8]>) -> String {
-    let report = check_within(
-        formula.unwrap_or(b""),
-        certificate.unwrap_or(b""),
-        [PROGRAM_TABLE; 6],
-        PROGRAM_FORMULA_LIMIT,
-        PROGRAM_CERTIFICATE_LIMIT,
-    );
-    format!("{}\n", report.verdict.text())
+    let files = [formula.unwrap_or(b""), certificate.unwrap_or(b"")];
+    let limits = [PROGRAM_FORMULA_LIMIT, PROGRAM_CERTIFICATE_LIMIT];
+    format!("{}\n", check_within(files, [PROGRAM_TABLE; 6], limits, certificate_lines).verdict.text())
 }
 
 /// The formula's part alone: refusal 1, then its lines and its end, with the

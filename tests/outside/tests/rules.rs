@@ -1,7 +1,17 @@
-//! The rules of document 01: its twelve checks, the edges, the two calls.
+//! The rules of document 01 and of FERP: the twelve checks, the edges, the
+//! calls.
 
-use outside::fixed;
+use outside::ferp::{self, is_resolvent, Clause};
+use outside::fixed::{self, Fixed};
 use outside::reference::{self, check, is_false, line_bytes, read_formula, ENDLESS};
+use outside::{ferp_fixed, Kind};
+
+/// All fixed cases of both kinds.
+fn cases() -> Vec<Fixed> {
+    let mut list = fixed::cases();
+    list.extend(ferp_fixed::cases());
+    list
+}
 
 #[test]
 fn twelve_checks() {
@@ -17,9 +27,9 @@ fn twelve_checks() {
 #[test]
 fn edges() {
     let mut wrong = Vec::new();
-    let cases = fixed::cases();
+    let cases = cases();
     for case in &cases {
-        let report = check(&case.formula, &case.certificate, case.lengths);
+        let report = case.kind.check(&case.formula, &case.certificate, case.lengths);
         if report.verdict.text() != case.expected {
             wrong.push(format!("{}: {}, expected {}", case.name, report.verdict.text(), case.expected));
         }
@@ -33,11 +43,99 @@ fn edges() {
 
 #[test]
 fn every_number_has_a_fixed_case() {
-    let cases = fixed::cases();
-    for number in 1..=15 {
-        let head = format!("refused,{number},");
-        assert!(cases.iter().any(|case| case.expected.starts_with(&head)), "{number}");
+    let cases = cases();
+    for kind in Kind::ALL {
+        for number in 1..=17 {
+            let head = format!("refused,{number},");
+            let found = cases.iter().any(|case| case.kind == kind && case.expected.starts_with(&head));
+            assert_eq!(found, kind.numbers().contains(&number), "{} {number}", kind.name());
+        }
     }
+}
+
+/// A FERP check in endless tables; `/` stands for byte 10.
+fn ferp(formula: &str, certificate: &str) -> String {
+    let [formula, certificate] = [formula, certificate].map(|text| text.replace('/', "\n"));
+    ferp::check(formula.as_bytes(), certificate.as_bytes(), ENDLESS).verdict.text()
+}
+
+#[test]
+fn figure_2_of_001_without_each_line() {
+    let lines: Vec<&str> = ferp_fixed::FIGURE_2_FERP.split('/').filter(|line| !line.is_empty() && !line.starts_with('c')).collect();
+    assert_eq!(lines.len(), 10);
+    let expected = [
+        // An expansion whose copy is not mapped.
+        "refused,9,2,3,0,0,0",
+        "refused,9,2,4,1,0,0",
+        "refused,9,2,3,0,0,0",
+        // A resolution whose parent is not there.
+        "refused,16,2,7,3,0,0",
+        "refused,16,2,7,3,0,0",
+        "refused,16,2,8,3,1,0",
+        "refused,16,2,9,3,2,0",
+        "refused,16,2,8,4,0,0",
+        "refused,16,2,9,4,1,0",
+        "refused,14,2,0,4,2,0",
+    ];
+    for left_out in 0..lines.len() {
+        let kept: Vec<&str> = (0..lines.len()).filter(|i| *i != left_out).map(|i| lines[i]).collect();
+        assert_eq!(ferp(fixed::FIGURE_2, &kept.join("/")), expected[left_out], "without line {}", left_out + 1);
+    }
+}
+
+#[test]
+fn figure_2_of_001_with_other_parents() {
+    // Line 6 (index 5) resolves on copy 1, line 7 on 3, line 8 on 2: no other two of the lines before do.
+    let lines: Vec<&str> = ferp_fixed::FIGURE_2_FERP.split('/').filter(|line| !line.is_empty() && !line.starts_with('c')).collect();
+    for (place, literals, right) in [(7, "2 3", [1, 2]), (8, "2", [5, 3]), (9, "", [6, 4])] {
+        for one in 1..=8 {
+            for other in 1..=8 {
+                let mut changed: Vec<String> = lines.iter().map(|line| line.to_string()).collect();
+                changed[place] = format!("{} {literals} 0 {one} {other} 0", place - 2);
+                let found = ferp(fixed::FIGURE_2, &changed.join("/"));
+                let fits = [one, other] == right || [other, one] == right;
+                assert_eq!(found == "accepted,0,0,0,4,3,0", fits, "{one} {other}: {found}");
+                assert!(fits || found == format!("refused,16,2,{},4,{},0", place + 1, place - 7), "{one} {other}: {found}");
+            }
+        }
+    }
+}
+
+/// All clauses over two copies.
+fn clauses() -> Vec<Clause> {
+    let literals = [1, -1, 2, -2];
+    (0..16).map(|bits| (0..4).filter(|i| bits >> i & 1 == 1).map(|i| literals[i]).collect()).collect()
+}
+
+/// A resolvent, literal by literal and with no set made: on copy v, with the
+/// parents as they stand or turned.
+fn resolves_by_literals(clause: &Clause, one: &Clause, other: &Clause) -> bool {
+    let on = |p: &Clause, q: &Clause, v: i64| {
+        let due = |l: i64| p.contains(&l) && l != v || q.contains(&l) && l != -v;
+        p.contains(&v) && q.contains(&-v) && [1, -1, 2, -2].into_iter().all(|l| clause.contains(&l) == due(l))
+    };
+    [1, 2].into_iter().any(|v| on(one, other, v) || on(other, one, v))
+}
+
+#[test]
+fn resolvents_over_two_copies() {
+    let mut count = 0;
+    for one in clauses() {
+        for other in clauses() {
+            for clause in clauses() {
+                let found = is_resolvent(&clause, &one, &other);
+                assert_eq!(found, resolves_by_literals(&clause, &one, &other), "{clause:?} of {one:?} and {other:?}");
+                assert_eq!(found, is_resolvent(&clause, &other, &one));
+                // True where its parents are.
+                let holds = |c: &Clause, bits: i32| c.iter().any(|l| (bits >> (l.abs() - 1) & 1 == 1) == (*l > 0));
+                let implied = (0..4).all(|bits| !holds(&one, bits) || !holds(&other, bits) || holds(&clause, bits));
+                assert!(!found || implied, "{clause:?} of {one:?} and {other:?}");
+                count += usize::from(found);
+            }
+        }
+    }
+    println!("{count} of 4096 are resolvents");
+    assert!((100..400).contains(&count), "{count}");
 }
 
 #[test]

@@ -1,33 +1,33 @@
-use borrow.Author.Needs.{needs}
 use native.Mathlib.Omega.{arith}
 use denote.Ref.{now}
 use Rattle.checks.proofs.ListLaws.{seven-long, one}
+use borrow.Author.Needs.{needs}
 use Rattle.checks.proofs.check_one.Statement.{statement}
 use Rattle.checks.proofs.check_one.Tie as tie
 
-sub-check : tie.Need-sub-check
-sub-check c = search needs
+sub-check-kind : tie.Need-sub-check-kind
+sub-check-kind c = search needs
 
-part-check-start : tie.Need-part-check-start
-part-check-start c = search needs
+part-check-kind-start : tie.Need-part-check-kind-start
+part-check-kind-start c = search needs
 
-part-check-end : tie.Need-part-check-end
-part-check-end c = search needs
+part-check-kind-end : tie.Need-part-check-kind-end
+part-check-kind-end c = search needs
 
-sub-check-2 : tie.Need-sub-check-2
-sub-check-2 c = search needs
+sub-check-kind-2 : tie.Need-sub-check-kind-2
+sub-check-kind-2 c = search needs
 
-part-check-start-2 : tie.Need-part-check-start-2
-part-check-start-2 c = search needs
+part-check-kind-start-2 : tie.Need-part-check-kind-start-2
+part-check-kind-start-2 c = search needs
 
-part-check-end-2 : tie.Need-part-check-end-2
-part-check-end-2 c = search needs
+part-check-kind-end-2 : tie.Need-part-check-kind-end-2
+part-check-kind-end-2 c = search needs
 
-check-requires : tie.Need-check-requires
-check-requires c κs = search needs
+check-kind-requires : tie.Need-check-kind-requires
+check-kind-requires c κs = search needs
 
-numbers-requires : tie.Need-numbers-requires
-numbers-requires c κs = search needs
+numbers-of-requires : tie.Need-numbers-of-requires
+numbers-of-requires c κs = search needs
 
 sub-put-numbers : tie.Need-sub-put-numbers
 sub-put-numbers c = search needs
@@ -39,8 +39,7 @@ part-put-numbers-end : tie.Need-part-put-numbers-end
 part-put-numbers-end c = search needs
 
 put-numbers-requires : tie.Need-put-numbers-requires
-put-numbers-requires c κs = let numbered = c .before .before .before in
-    omega (arith, seven-long _ (numbered .numbers .ensures), numbered .before .before .before .before .before .before .before .before .before .before .before .before .before .before .before .before .before .before .pre)
+put-numbers-requires c κs = omega (arith, seven-long (c .before .before .before .before .before .before .before .before .before .before .check-kind .result) (c .before .before .before .numbers-of .ensures), c .before .before .before .before .before .before .before .before .before .before .before .before .before .before .before .before .before .before .before .before .before .pre)
 
 same-length : tie.Need-same-length
 same-length c = search needs
@@ -64,23 +63,20 @@ same-length-7 : tie.Need-same-length-7
 same-length-7 c = search needs
 
 returns : tie.Need-returns
-returns c = let numbered = c .before .before .before .before .before .before in
-    let checked = numbered .before .before .before .before .before .before .before in
-    let a = checked .before .before .before .before .before .before .before .before .before .before .before .args in
-    one (now (a .bytes)) (a .from) (a .middle) (a .to) (a .at) _ (checked .check .ensures) (numbered .numbers .ensures) (c .before .before .put-numbers .ensures)
+returns c = one (now (c .before .before .before .before .before .before .before .before .before .before .before .before .before .before .before .before .before .before .before .before .before .before .before .before .args .bytes)) (c .before .before .before .before .before .before .before .before .before .before .before .before .before .before .before .before .before .before .before .before .before .before .before .before .args .from) (c .before .before .before .before .before .before .before .before .before .before .before .before .before .before .before .before .before .before .before .before .before .before .before .before .args .middle) (c .before .before .before .before .before .before .before .before .before .before .before .before .before .before .before .before .before .before .before .before .before .before .before .before .args .to) (c .before .before .before .before .before .before .before .before .before .before .before .before .before .before .before .before .before .before .before .before .before .before .before .before .args .kind) (c .before .before .before .before .before .before .before .before .before .before .before .before .before .before .before .before .before .before .before .before .before .before .before .before .args .at) (c .before .before .before .before .before .before .before .before .before .before .before .before .before .check-kind .result) (c .before .before .before .before .before .before .before .before .before .before .before .before .before .check-kind .ensures) (c .before .before .before .before .before .before .numbers-of .ensures) (c .before .before .put-numbers .ensures)
 
 pub check-one-spec : {M : Type 1} → statement M
 check-one-spec =
     tie.close
     (tie.spec
-    sub-check
-    part-check-start
-    part-check-end
-    sub-check-2
-    part-check-start-2
-    part-check-end-2
-    check-requires
-    numbers-requires
+    sub-check-kind
+    part-check-kind-start
+    part-check-kind-end
+    sub-check-kind-2
+    part-check-kind-start-2
+    part-check-kind-end-2
+    check-kind-requires
+    numbers-of-requires
     sub-put-numbers
     part-put-numbers-start
     part-put-numbers-end

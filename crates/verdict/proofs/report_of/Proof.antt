@@ -3,17 +3,17 @@ use borrow.Author.Needs.{needs}
 use Rattle.verdict.proofs.report_of.Statement.{statement}
 use Rattle.verdict.proofs.report_of.Tie as tie
 
-refuse-overlong-requires : tie.Need-refuse-overlong-requires
-refuse-overlong-requires c κs = search needs
+refused-early-requires : tie.Need-refused-early-requires
+refused-early-requires c κs = search needs
 
 returns : tie.Need-returns
-returns c = overlong-formula _ _ _ (c .before .if1 .taken) _ (c .refuse-overlong .ensures)
+returns c = overlong-formula _ _ _ (c .before .if1 .taken) _ (c .refused-early .ensures)
 
-refuse-overlong-requires-2 : tie.Need-refuse-overlong-requires-2
-refuse-overlong-requires-2 c κs = search needs
+refused-early-requires-2 : tie.Need-refused-early-requires-2
+refused-early-requires-2 c κs = search needs
 
 returns-2 : tie.Need-returns-2
-returns-2 c = overlong-certificate _ _ _ (c .before .before .if1 .left) (c .before .if2 .taken) _ (c .refuse-overlong2 .ensures)
+returns-2 c = overlong-certificate _ _ _ (c .before .before .if1 .left) (c .before .if2 .taken) _ (c .refused-early2 .ensures)
 
 check-requires : tie.Need-check-requires
 check-requires c κs = search needs
@@ -45,9 +45,9 @@ pub report-of-spec : {M : Type 1} → statement M
 report-of-spec =
     tie.close
     (tie.spec
-    refuse-overlong-requires
+    refused-early-requires
     returns
-    refuse-overlong-requires-2
+    refused-early-requires-2
     returns-2
     check-requires
     same-length

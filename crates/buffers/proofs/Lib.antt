@@ -1,0 +1,2 @@
+-- Laws of the codes of a list in a buffer.
+pub mod BufferLaws

@@ -1,0 +1,2 @@
+-- What the contracts of crate buffers say.
+pub mod Buffers

@@ -1,0 +1,6 @@
+-- Laws of the judging of clause lines.
+pub mod LimitLaws
+pub mod CodeLaws
+pub mod RuleLaws
+pub mod StandLaws
+pub mod JudgeLaws

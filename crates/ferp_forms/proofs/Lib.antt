@@ -1,0 +1,3 @@
+-- Laws of the text of a clause line.
+pub mod ReasonLaws
+pub mod DerivationLaws

@@ -1,0 +1,2 @@
+-- What the contracts of crate ferp_forms say.
+pub mod Forms

@@ -1,0 +1,2 @@
+-- Laws of the indexes.
+pub mod IndexLaws

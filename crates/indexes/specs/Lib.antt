@@ -1,0 +1,2 @@
+-- What the indexes show.
+pub mod Shown

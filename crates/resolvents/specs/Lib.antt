@@ -1,0 +1,3 @@
+-- What the contracts of crate resolvents say.
+pub mod Resolves
+pub mod Marks

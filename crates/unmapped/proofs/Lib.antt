@@ -1,0 +1,2 @@
+-- Laws of rule 9.
+pub mod CopyLaws

@@ -1,0 +1,2 @@
+-- What the contract of crate unmapped says.
+pub mod Copies
