@@ -1,2 +1,3 @@
 -- Laws of rule 8.
 pub mod AnnotationLaws
+mod RisingLaws

@@ -1,23 +1,22 @@
 -- What each `return` and each turn of the code gives, from what was read before it. Assumes nothing.
 use mathlib.Core.Path.{_≡_, refl, ap, ap₂, sym, _∙_}
-use mathlib.Core.Bool.{Bool, true, false, not, _&&_}
+use mathlib.Core.Bool.{Bool, true, false, not, cond, _&&_}
 use mathlib.Core.List.{List, [], _∷_, _++_, map}
 use Prim.Native.Nat.{ℕ, _+_, _-_, _/_, _<_, _≤_}
 use native.Mathlib.Omega.{arith}
 use lib.Dec.{eqb}
 use lib.IntN.{ℤ}
 use lib.ListN.{length, getD}
-use borrow.Author.Tests.{eq-eqb, ne-eqb, eqb-true}
+use borrow.Author.Tests.{eq-eqb, ne-eqb}
 use Rattle.lines.specs.Lists.{all, keep}
 use Rattle.cells.specs.Cells.{listAt, codeAt}
 use Rattle.cells.proofs.Laws.{list-past}
-use Rattle.rules.proofs.Kit.{and-l, and-r}
 use Rattle.rules.specs.Basics.{isIn}
 use Rattle.rules.specs.Codes.{flip}
 use Rattle.prefix.specs.Prefix.{isUniversal, dependency}
 use Rattle.assignment.specs.Held.{listed, joined, adding}
 use Rattle.copies.specs.Copies.{annotationAt, annotationOf}
-use Rattle.assignment.specs.Annotations.{alone, apart, annotationsOf, negations, partSize, isPart, longAs, leastOf, copyFits, annotationsFit}
+use Rattle.assignment.specs.Annotations.{alone, apart, annotationsOf, negations, partSize, isPart, leastOf, copyFits, annotationsFit}
 use Rattle.copies.proofs.Walks.{stop, more}
 use Rattle.assignment.proofs.HeldLaws.{listed-none, listed-down, listed-length, joined-append, joined-twice}
 use Rattle.copies.proofs.Choices.{yes, no}
@@ -182,20 +181,6 @@ unfolding copyFits annotationOf
 copy-is w st vs mp t x ha he hk hr hb =
     sym (sym hb ∙ hr ∙ ap₂ (isPart w t) he (hk ∙ ap (λ n. length (listAt mp n)) ha))
 
--- EVERY ANNOTATION AS LONG AS t
-pub long-is : (vs mp : List ℤ) (n x : ℕ) {a k : ℕ} → a ≡ annotationAt vs mp (x / 2) → k ≡ length (listAt mp a)
-    → eqb k n ≡ longAs (annotationOf vs mp) n x
-unfolding longAs annotationOf
-long-is vs mp n x ha hk = ap (λ m. eqb m n) (hk ∙ ap (λ m. length (listAt mp m)) ha)
-
-long-fit : (w st : ℕ → ℕ) (nt : ℕ → List ℕ) (h : List ℕ) (n : ℕ) (ls : List ℕ) → all (longAs nt n) ls ≡ true
-    → true ≡ all (copyFits w st nt (listed h n)) ls
-unfolding longAs copyFits
-long-fit w st nt h n [] q = refl
-long-fit w st nt h n (x ∷ ls) q =
-    ap₂ (λ a b. a && b) (part-all w h n (st (x / 2)) (length (nt (x / 2))) (eqb-true (length (nt (x / 2))) n (and-l (longAs nt n x) (all (longAs nt n) ls) q)))
-    (long-fit w st nt h n ls (and-r (longAs nt n x) (all (longAs nt n) ls) q))
-
 -- ALL OF THE TEST
 module _ (w st : ℕ → ℕ) (nt : ℕ → List ℕ) (ls cs : List ℕ) where
   -- t after the clause, and after the line
@@ -204,17 +189,6 @@ module _ (w st : ℕ → ℕ) (nt : ℕ → List ℕ) (ls cs : List ℕ) where
     unfolding leastOf
     least-is = ht ∙ ap (λ (l : List ℕ). joined l (annotationsOf nt ls)) hu ∙ sym (joined-append [] (negations w cs) (annotationsOf nt ls))
 
-    pub notes-no : {b : Bool} → b ≡ apart t → b ≡ false → false ≡ annotationsFit w st nt ls cs
+    pub notes-are : {r : Bool} → r ≡ cond (apart t) (all (copyFits w st nt t) ls) false → r ≡ annotationsFit w st nt ls cs
     unfolding annotationsFit
-    notes-no q h =
-        no (apart (leastOf w st nt ls cs)) (all (copyFits w st nt (leastOf w st nt ls cs)) ls) false (sym (q ∙ ap apart least-is) ∙ h) refl
-
-    pub notes-yes : {b r : Bool} → b ≡ apart t → b ≡ true → r ≡ all (copyFits w st nt t) ls → r ≡ annotationsFit w st nt ls cs
-    unfolding annotationsFit
-    notes-yes q h k =
-        yes (apart (leastOf w st nt ls cs)) (all (copyFits w st nt (leastOf w st nt ls cs)) ls) false (sym (q ∙ ap apart least-is) ∙ h)
-        (k ∙ ap (λ (l : List ℕ). all (copyFits w st nt l) ls) least-is)
-
-    pub notes-long : {b : Bool} → b ≡ apart t → b ≡ true → (h : List ℕ) (n : ℕ) → t ≡ listed h n
-        → {a : Bool} → a ≡ all (longAs nt n) ls → a ≡ true → true ≡ annotationsFit w st nt ls cs
-    notes-long q k h n e z y = notes-yes q k (long-fit w st nt h n ls (sym z ∙ y) ∙ ap (λ (l : List ℕ). all (copyFits w st nt l) ls) (sym e))
+    notes-are q = q ∙ ap (λ (l : List ℕ). cond (apart l) (all (copyFits w st nt l) ls) false) least-is

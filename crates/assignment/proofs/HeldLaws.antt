@@ -1,20 +1,20 @@
 -- Laws of codes that are marked and listed, each once. Assumes nothing.
 use mathlib.Core.Path.{_≡_, refl, ap, ap₂, sym, subst, _∙_}
 use mathlib.Core.Logic.{_⊎_, inl, inr}
-use mathlib.Core.Bool.{Bool, true, false, cond, _||_}
+use mathlib.Core.Bool.{Bool, true, false, cond, _||_, _&&_}
 use mathlib.Core.List.{List, [], _∷_, _++_, List·Memᴰ·head, List·Memᴰ·tail, List·Memᴰ·not-nil, List·Memᴰ·cases-cons}
 use Prim.Native.Nat.{ℕ, zero, suc, _+_, _-_, _<_, _≤_}
 use native.Mathlib.Omega.{arith}
-use lib.ListN.{length, getD, set, length-set, replicate, length-replicate, List·getD-eq-default}
+use lib.ListN.{length, getD, set, length-set, replicate, List·getD-eq-default}
 use lib.Seq.{getD-set-same, getD-set-other, set-out}
 use lib.Dec.{eqb, ltb}
 use borrow.Author.Tests.{eq-eqb, ne-eqb, eqb-true, eqb-false, lt-ltb, le-ltb, ltb-true, ltb-false}
 use Rattle.rules.specs.Basics.{isIn, distinct}
-use Rattle.rules.proofs.Kit.{clear, or-cases, by-yes, either, In}
+use Rattle.rules.proofs.Kit.{clear, and-l, and-r, either, In}
 use Rattle.rules.proofs.Distinct.{in-isIn, isIn-in, distinct-cons}
-use Rattle.copies.specs.Marks.{marks, Marked}
-use Rattle.assignment.specs.Held.{listed, adding, joined, zeros, Held, Holds, Noted}
-use Rattle.copies.proofs.MarkLaws.{getD-zeros, zeros-marked}
+use Rattle.copies.specs.Marks.{Unmarked}
+use Rattle.copies.proofs.MarkLaws.{getD-zeros}
+use Rattle.assignment.specs.Held.{listed, isNew, adding, joined, zeros, Held, Holds, Noted}
 
 -- THE LIST IN AN ARRAY
 listed-set : (h : List ℕ) (n k v : ℕ) → n ≤ k → listed (set h k v) n ≡ listed h n
@@ -43,16 +43,51 @@ listed-length h zero = refl
 listed-length h (suc n) = ap suc (listed-length h n)
 
 -- PLACES WITHOUT A MARK
-zeros-set : (vs : List ℕ) (i v : ℕ) → i < length vs → getD vs i 0 ≡ 0 → (v ≡ 0 → ⊥) → zeros (set vs i v) < zeros vs
+zeros-set : (k : ℕ) (vs : List ℕ) (i v : ℕ) → i < k → i < length vs → getD vs i 0 ≡ 0 → (v ≡ 0 → ⊥) → zeros k (set vs i v) < zeros k vs
 unfolding zeros
-zeros-set [] i v h e n = absurd (omega arith)
-zeros-set (x ∷ vs) zero v h e n = rw (ne-eqb v 0 n, eq-eqb x 0 e) (omega arith)
-zeros-set (x ∷ vs) (suc i) v h e n = let z = zeros-set vs i v (omega arith) e n in omega arith
+zeros-set zero vs i v l h e n = absurd (omega arith)
+zeros-set (suc k) [] i v l h e n = absurd (omega arith)
+zeros-set (suc k) (x ∷ vs) zero v l h e n = rw (ne-eqb v 0 n, eq-eqb x 0 e) (omega arith)
+zeros-set (suc k) (x ∷ vs) (suc i) v l h e n = let z = zeros-set k vs i v (omega arith) (omega arith) e n in omega arith
 
-zeros-all : (n : ℕ) → zeros (replicate n 0) ≤ n
+zeros-all : (k : ℕ) (vs : List ℕ) → zeros k vs ≤ k
 unfolding zeros
-zeros-all zero = omega arith
-zeros-all (suc n) = let h = zeros-all n in omega arith
+zeros-all zero vs = omega arith
+zeros-all (suc k) [] = omega arith
+zeros-all (suc k) (v ∷ vs) = let h = zeros-all k vs in go (eqb v 0) h
+  where
+    go : (b : Bool) → zeros k vs ≤ k → cond b 1 0 + zeros k vs ≤ suc k
+    go true h = omega arith
+    go false h = omega arith
+
+-- a code that can be added
+module _ (s : List ℕ) (y : ℕ) where
+  pub new-is : y < 8194 → y < length s → eqb (getD s y 0) 0 ≡ isNew s y
+  unfolding isNew
+  new-is h k = sym (ap₂ (λ a b. a && (b && eqb (getD s y 0) 0)) (lt-ltb y 8194 h) (lt-ltb y (length s) k))
+
+  pub new-out : y < 8194 → length s ≤ y → false ≡ isNew s y
+  unfolding isNew
+  new-out h k = sym (ap₂ (λ a b. a && (b && eqb (getD s y 0) 0)) (lt-ltb y 8194 h) (le-ltb y (length s) k))
+
+  pub new-high : 8194 ≤ y → false ≡ isNew s y
+  unfolding isNew
+  new-high h = sym (ap (λ a. a && (ltb y (length s) && eqb (getD s y 0) 0)) (le-ltb y 8194 h))
+
+module _ (s : List ℕ) (y : ℕ) (e : isNew s y ≡ true) where
+  pub new-low : y < 8194
+  unfolding isNew
+  new-low = ltb-true y 8194 (and-l (ltb y 8194) (ltb y (length s) && eqb (getD s y 0) 0) e)
+
+  new-rest : (ltb y (length s) && eqb (getD s y 0) 0) ≡ true
+  unfolding isNew
+  new-rest = and-r (ltb y 8194) (ltb y (length s) && eqb (getD s y 0) 0) e
+
+  pub new-inside : y < length s
+  new-inside = ltb-true y (length s) (and-l (ltb y (length s)) (eqb (getD s y 0) 0) new-rest)
+
+  new-bare : getD s y 0 ≡ 0
+  new-bare = eqb-true (getD s y 0) 0 (and-r (ltb y (length s)) (eqb (getD s y 0) 0) new-rest)
 
 -- ONE CODE MORE
 module _ (t : List ℕ) (y : ℕ) where
@@ -150,78 +185,104 @@ module _ (s h : List ℕ) (n : ℕ) (held : Held s h n) where
   abbrev t : List ℕ
   t = listed h n
 
-  pub held-few : n ≤ 8194
-  held-few = let r = held .room in omega arith
-
   module _ (y : ℕ) where
-    module _ (l : y < 8194) where
-      -- a code with its mark, and one without
-      pub mark-is : eqb (getD s y 0) 1 ≡ isIn t y
-      unfolding Marked
-      mark-is = ap (λ k. eqb k 1) (held .marked y l) ∙ go (isIn t y)
+    pub mark-is : eqb (getD s y 0) 1 ≡ isIn t y
+    mark-is = ap (λ k. eqb k 1) (held .marked y) ∙ go (isIn t y)
+      where
+        go : (b : Bool) → eqb (cond b 1 0) 1 ≡ b
+        go true = refl
+        go false = refl
+
+    pub mark-out : length s ≤ y → false ≡ isIn t y
+    mark-out l = sym (ap (λ k. eqb k 1) (List·getD-eq-default s 0 l)) ∙ mark-is
+
+    module _ (e : isNew s y ≡ true) where
+      fresh : isIn t y ≡ false
+      fresh = sym mark-is ∙ ap (λ k. eqb k 1) (new-bare s y e)
+
+      fewer : zeros 8194 (set s y 1) < zeros 8194 s
+      fewer = zeros-set 8194 s y 1 (new-low s y e) (new-inside s y e) (new-bare s y e) (λ z. omega arith)
+
+      pub add-room : n < 8194
+      add-room = let a = held .room in let b = fewer in omega arith
+
+      after : listed (set h n y) (n + 1) ≡ y ∷ t
+      after = listed-more h n y (let a = add-room in omega (arith, held .longList))
+
+      after-marked : (k : ℕ) → getD (set s y 1) k 0 ≡ cond (eqb k y || isIn t k) 1 0
+      after-marked k = go (eqb k y) refl
         where
-          go : (b : Bool) → eqb (cond b 1 0) 1 ≡ b
-          go true = refl
-          go false = refl
+          go : (b : Bool) → eqb k y ≡ b → getD (set s y 1) k 0 ≡ cond (b || isIn t k) 1 0
+          go true q = ap (λ j. getD (set s y 1) j 0) (eqb-true k y q) ∙ getD-set-same s y 1 0 (new-inside s y e)
+          go false q = getD-set-other s y k 1 0 (eqb-false k y q) ∙ held .marked k
 
-      module _ (z : getD s y 0 ≡ 0) where
-        fresh : isIn t y ≡ false
-        fresh = sym mark-is ∙ ap (λ k. eqb k 1) z
+      pub add-new : Holds (set s y 1) (set h n y) (n + 1) (adding t y)
+      add-new = record {
+        held = record {
+          marked = λ k. after-marked k ∙ sym (ap (λ (ys : List ℕ). cond (isIn ys k) 1 0) after);
+          room = let a = held .room in let b = fewer in omega arith;
+          long = omega (arith, length-set s y 1, held .long);
+          longList = omega (arith, length-set h n y, held .longList);
+        };
+        codes = after ∙ sym (adding-new t y (new-low s y e) fresh);
+      }
 
-        pub add-room : n < 8194
-        add-room =
-            let a = held .room in let b = zeros-set s y 1 (omega (arith, held .long)) z (λ e. omega arith) in omega arith
+    pub add-known : isNew s y ≡ false → Holds s h n (adding t y)
+    add-known e = record { held = held; codes = sym (go (ltb y 8194) refl (isIn t y) refl) }
+      where
+        -- a code without a mark could be added
+        bare : ltb y 8194 ≡ true → isIn t y ≡ false → isNew s y ≡ true
+        bare l i =
+            let k : y < 8194 = ltb-true y 8194 l in
+            sym (new-is s y k (omega (arith, held .long))) ∙ eq-eqb (getD s y 0) 0 (held .marked y ∙ ap (λ b. cond b 1 0) i)
 
-        after : listed (set h n y) (n + 1) ≡ y ∷ t
-        after = listed-more h n y (let a = add-room in omega (arith, held .longList))
+        go : (b : Bool) → ltb y 8194 ≡ b → (i : Bool) → isIn t y ≡ i → adding t y ≡ t
+        go false l i f = adding-high t y (ltb-false y 8194 l)
+        go true l true f = adding-old t y (ltb-true y 8194 l) f
+        go true l false f = absurd (clear (bare l f) e)
 
-        after-marked : Marked (set s y 1) (y ∷ t)
-        unfolding Marked
-        after-marked k m = go (eqb k y) refl
-          where
-            go : (b : Bool) → eqb k y ≡ b → getD (set s y 1) k 0 ≡ cond (b || isIn t k) 1 0
-            go true e = ap (λ j. getD (set s y 1) j 0) (eqb-true k y e) ∙ getD-set-same s y 1 0 (omega (arith, held .long))
-            go false e = getD-set-other s y k 1 0 (eqb-false k y e) ∙ held .marked k m
-
-        pub add-new : Holds (set s y 1) (set h n y) (n + 1) (adding t y)
-        add-new = record {
-          held = record {
-            marked = subst (Marked (set s y 1)) (sym after) after-marked;
-            low = λ k i.
-                either (λ e. let q = eqb-true k y e in omega arith) (held .low k)
-                (or-cases (eqb k y) (isIn t k) (sym (ap (λ (ys : List ℕ). isIn ys k) after) ∙ i));
-            room =
-                let a = held .room in let b = zeros-set s y 1 (omega (arith, held .long)) z (λ e. omega arith) in omega arith;
-            long = length-set s y 1 ∙ held .long;
-            longList = length-set h n y ∙ held .longList;
-          };
-          codes = after ∙ sym (adding-new t y l fresh);
-        }
-
-      pub add-old : (getD s y 0 ≡ 0 → ⊥) → Holds s h n (adding t y)
-      unfolding Marked
-      add-old z = record { held = held; codes = sym (adding-old t y l (go (isIn t y) refl)) }
-        where
-          go : (b : Bool) → isIn t y ≡ b → isIn t y ≡ true
-          go true e = e
-          go false e = absurd (z (held .marked y l ∙ ap (λ b. cond b 1 0) e))
-
-    pub add-high : 8194 ≤ y → Holds s h n (adding t y)
-    add-high l = record { held = held; codes = sym (adding-high t y l) }
-
-    pub high-out : 8194 ≤ y → false ≡ isIn t y
-    high-out l = sym (by-yes (isIn t y) (λ e. let k = held .low y e in omega arith))
-
--- arrays of zeros hold nothing
-pub holds-none : Held (replicate 8194 0) (replicate 8194 0) 0
-unfolding listed marks
-holds-none = record {
-  marked = zeros-marked [] (replicate 8194 0) refl;
-  low = λ y e. let z : _≡_ {A = ℕ} 0 1 = cc in absurd (omega arith);
-  room = omega (arith, zeros-all 8194);
-  long = length-replicate {A = ℕ} 8194 0;
-  longList = length-replicate {A = ℕ} 8194 0;
+-- arrays without a mark hold nothing
+pub holds-none : (s h : List ℕ) → Unmarked s → 8194 ≤ length h → Held s h 0
+unfolding listed
+holds-none s h u l = record {
+  marked = u .none;
+  room = omega (arith, zeros-all 8194 s);
+  long = u .long;
+  longList = l;
 }
+
+-- TAKING BACK: only the first i places of h are marked in s
+pub record Left (s h : List ℕ) (i : ℕ) : Type 0 where
+  pub long : 8194 ≤ length s
+  pub none : (y : ℕ) → isIn (listed h i) y ≡ false → getD s y 0 ≡ 0
+
+pub left-all : (s h : List ℕ) (n : ℕ) → Held s h n → Left s h n
+left-all s h n held = record { long = held .long; none = λ y e. held .marked y ∙ ap (λ b. cond b 1 0) e }
+
+module _ (s h : List ℕ) (i : ℕ) (left : Left s h i) where
+  pub left-none : i ≤ 0 → Unmarked s
+  left-none l = record { long = left .long; none = λ y. left .none y (ap (λ (t : List ℕ). isIn t y) (listed-none h l)) }
+
+  module _ (l : 0 < i) {v : ℕ} (q : v ≡ getD h (i - 1) 0) where
+    -- a code that is not among those that are left
+    gone : (y : ℕ) → (y ≡ v → ⊥) → isIn (listed h (i - 1)) y ≡ false → isIn (listed h i) y ≡ false
+    gone y d e =
+        ap (λ (t : List ℕ). isIn t y) (listed-down h l)
+        ∙ ap₂ (λ a b. a || b) (ne-eqb y (getD h (i - 1) 0) (λ z. d (z ∙ sym q))) e
+
+    pub left-more : v < length s → Left (set s v 0) h (i - 1)
+    left-more k = record { long = omega (arith, length-set s v 0, left .long); none = λ y e. go y e (eqb y v) refl }
+      where
+        go : (y : ℕ) → isIn (listed h (i - 1)) y ≡ false → (b : Bool) → eqb y v ≡ b → getD (set s v 0) y 0 ≡ 0
+        go y e true z = ap (λ j. getD (set s v 0) j 0) (eqb-true y v z) ∙ getD-set-same s v 0 0 k
+        go y e false z = let d = eqb-false y v z in getD-set-other s v y 0 0 d ∙ left .none y (gone y d e)
+
+    pub left-out : length s ≤ v → Left s h (i - 1)
+    left-out k = record { long = left .long; none = λ y e. go y e (eqb y v) refl }
+      where
+        go : (y : ℕ) → isIn (listed h (i - 1)) y ≡ false → (b : Bool) → eqb y v ≡ b → getD s y 0 ≡ 0
+        go y e true z = ap (λ j. getD s j 0) (eqb-true y v z) ∙ List·getD-eq-default s 0 k
+        go y e false z = left .none y (gone y (eqb-false y v z) e)
 
 -- NOTES
 pub noted-none : (size : ℕ → ℕ) (n : ℕ) → Noted size (replicate n 0)

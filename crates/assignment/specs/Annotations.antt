@@ -22,10 +22,6 @@ unfoldable pub annotationsOf : (ℕ → List ℕ) → List ℕ → List ℕ
 annotationsOf nt [] = []
 annotationsOf nt (x ∷ ls) = nt (x / 2) ++ annotationsOf nt ls
 
--- the annotation of x's copy has n literals
-unfoldable pub longAs : (ℕ → List ℕ) → ℕ → ℕ → Bool
-longAs nt n x = eqb (length (nt (x / 2))) n
-
 -- w gives each variable's word of the prefix table
 module _ (w : ℕ → ℕ) where
   -- the negations of the clause's universal literals

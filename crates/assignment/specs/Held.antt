@@ -1,12 +1,11 @@
 -- Codes listed in an array, each once, for codes below 8194, above every code of a formula's literal. Assumes nothing.
 use mathlib.Core.Path.{_≡_}
-use mathlib.Core.Bool.{true, cond}
+use mathlib.Core.Bool.{Bool, cond, _&&_}
 use mathlib.Core.List.{List, [], _∷_}
-use Prim.Native.Nat.{ℕ, zero, suc, _+_, _<_, _≤_}
+use Prim.Native.Nat.{ℕ, zero, suc, _+_, _≤_}
 use lib.Dec.{eqb, ltb}
 use lib.ListN.{length, getD}
 use Rattle.rules.specs.Basics.{isIn}
-use Rattle.copies.specs.Marks.{Marked}
 
 -- the first n places of an array, the last one first
 unfoldable pub listed : List ℕ → ℕ → List ℕ
@@ -21,17 +20,22 @@ unfoldable pub joined : List ℕ → List ℕ → List ℕ
 joined t [] = t
 joined t (y ∷ ys) = joined (adding t y) ys
 
-unfoldable pub zeros : List ℕ → ℕ
-zeros [] = 0
-zeros (v ∷ vs) = cond (eqb v 0) 1 0 + zeros vs
+-- a code of a formula's literal that has a place without a mark
+unfoldable pub isNew : List ℕ → ℕ → Bool
+isNew s y = ltb y 8194 && (ltb y (length s) && eqb (getD s y 0) 0)
 
--- the first n places of h are marked in s, and there is room for every code without a mark
+-- how many of the first k places have no mark
+unfoldable pub zeros : ℕ → List ℕ → ℕ
+zeros zero vs = 0
+zeros (suc k) [] = 0
+zeros (suc k) (v ∷ vs) = cond (eqb v 0) 1 0 + zeros k vs
+
+-- the first n places of h are marked in s and nothing else is, and there is room for every code without a mark
 pub record Held (s h : List ℕ) (n : ℕ) : Type 0 where
-  pub marked : Marked s (listed h n)
-  pub low : (y : ℕ) → isIn (listed h n) y ≡ true → y < 8194
-  pub room : n + zeros s ≤ 8194
-  pub long : length s ≡ 8194
-  pub longList : length h ≡ 8194
+  pub marked : (y : ℕ) → getD s y 0 ≡ cond (isIn (listed h n) y) 1 0
+  pub room : n + zeros 8194 s ≤ 8194
+  pub long : 8194 ≤ length s
+  pub longList : 8194 ≤ length h
 
 -- they are the codes of t
 pub record Holds (s h : List ℕ) (n : ℕ) (t : List ℕ) : Type 0 where

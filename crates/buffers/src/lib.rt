@@ -3,12 +3,14 @@ ghost use mathlib.Core.Path.{_≡_};
 ghost use Prim.Native.Nat.{_+_, _≤_, _<_};
 ghost use lib.ListN.{length, set};
 ghost use lib.Seq.{sets};
+ghost use Rattle.lines.specs.Scan.{literalAt};
 ghost use Rattle.lists.specs.Lists.{listedAt};
 ghost use Rattle.lists.specs.Stores.{codesAt, puts};
 ghost use Rattle.buffers.specs.Buffers.{firstCodes, StoresLine};
 use cells::larger;
 use clauses::Store;
 use lines::Literal;
+use lines::Plain;
 use lists::Ending;
 use lists::Listed;
 
@@ -24,6 +26,16 @@ fn keep(buffer: &mut [u32], k: usize, x: u32)
     }
 }
 
+// The next token, as `lines::literal_at` reads it. Most tokens are plain, and the walk for those is short enough to be compiled into the loop below.
+fn token(line: &[u8], at: usize) -> Literal
+    ensures { λ r. ⌜ r ≡ literalAt (now (line .entry)) at ⌝ }
+{
+    if let Plain::Of(x, e) = lines::plain_at(line, at) {
+        return Literal::Of(x, e);
+    }
+    lines::literal_at(line, at)
+}
+
 // As `lists::list_at`; and the codes of the list and of its zero are in the buffer, as far as it goes.
 pub fn list_at(line: &[u8], at: usize, buffer: &mut [u32]) -> Listed
     ensures { λ r. ⌜ (r ≡ listedAt (now (line .entry)) at)
@@ -34,7 +46,7 @@ pub fn list_at(line: &[u8], at: usize, buffer: &mut [u32]) -> Listed
     let mut n: usize = 0;
     let mut m: u32 = 0;
     loop {
-        let Literal::Of(x, e) = lines::literal_at(line, i) else {
+        let Literal::Of(x, e) = token(line, i) else {
             return Listed::Bad;
         };
         keep(buffer, n, x);

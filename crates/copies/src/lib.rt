@@ -2,11 +2,9 @@
 pub mod marks;
 pub mod read;
 
-use crate::marks::Seen;
 ghost use mathlib.Core.Path.{_≡_};
 ghost use Prim.Native.Nat.{_<_};
 ghost use Rattle.rules.specs.Basics.{isIn};
-ghost use Rattle.copies.specs.Marks.{marks};
 ghost use Rattle.copies.specs.Copies.{annotationAt, imageOf, imagesOf, standsIn, listIn};
 
 // The existential that copy p stands for.
@@ -28,22 +26,6 @@ pub fn image(values: &[i32], map: &[i32], x: usize) -> usize
     ensures { λ r. ⌜ r ≡ imageOf (standsIn (values .entry) (map .entry)) x ⌝ }
 {
     2 * stands(values, map, x / 2) + x % 2
-}
-
-// Marks what the line's literals stand for.
-pub fn mark_images(seen: &mut Seen, values: &[i32], map: &[i32], proof: &[i32], l: usize)
-    ensures { λ _. ⌜ now (seen .exit)
-        ≡ marks (imagesOf (standsIn (values .entry) (map .entry)) (listIn (proof .entry) l)) (now (seen .entry)) ⌝ }
-{
-    let mut i = l;
-    loop {
-        let x = read::code(proof, i);
-        if x == 0 {
-            return;
-        }
-        marks::mark_one(seen, image(values, map, x));
-        i += 1;
-    }
 }
 
 // Whether a literal of the line stands for y, without marks.

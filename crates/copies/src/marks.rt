@@ -1,4 +1,4 @@
-// Membership in a table's list of codes, through marks in a local array.
+// Membership in a table's list of codes, through marks in an array.
 use crate::read;
 ghost use mathlib.Core.Path.{_≡_};
 ghost use Rattle.rules.specs.Basics.{isIn};
@@ -8,19 +8,17 @@ ghost use Rattle.copies.specs.Copies.{listIn};
 // A formula's literals have codes below this.
 pub const CODES: usize = 8194;
 
-pub type Seen = [u8; CODES];
-
-// Marks a code; one above every code of a formula's literal is passed over.
-pub fn mark_one(seen: &mut Seen, y: usize)
+// Marks a code; one without a place is passed over.
+fn mark_one(seen: &mut [u8], y: usize)
     ensures { λ _. ⌜ now (seen .exit) ≡ stamp (now (seen .entry)) y ⌝ }
 {
-    if y < CODES {
+    if y < seen.len() {
         seen[y] = 1;
     }
 }
 
 // Marks the codes from place a on.
-pub fn mark(seen: &mut Seen, t: &[i32], a: usize)
+pub fn mark(seen: &mut [u8], t: &[i32], a: usize)
     ensures { λ _. ⌜ now (seen .exit) ≡ marks (listIn (t .entry) a) (now (seen .entry)) ⌝ }
 {
     let mut i = a;

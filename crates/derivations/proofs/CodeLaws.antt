@@ -6,7 +6,9 @@ use Prim.Native.Nat.{ℕ, _+_, _-_, _%_, max}
 use native.Mathlib.Omega.{arith}
 use lib.Dec.{eqb}
 use lib.IntN.{ℤ}
+use lib.ListN.{length}
 use borrow.Author.Tests.{eq-eqb, ne-eqb}
+use Rattle.copies.specs.Marks.{Unmarked}
 use Rattle.copies.proofs.Choices.{yes, no}
 use Rattle.tables.specs.Tables.{Tables}
 use Rattle.unmapped.specs.Copies.{allMapped}
@@ -22,8 +24,15 @@ use Rattle.derivations.specs.declared.Progress.{Progress}
 use Rattle.derivations.specs.declared.Reason.{Reason}
 use Rattle.derivations.specs.declared.Reason.the-variants.{Clause, Parents}
 use Rattle.derivations.specs.Shown.{Work}
-use Rattle.derivations.specs.Rules.{expansionBroken, byPlaces, parentsBroken, ParentsJudged, ruleBroken, RuleJudged}
+use Rattle.derivations.specs.Rules.{expansionBroken, byPlaces, parentsBroken, ExpansionJudged, ParentsJudged, ruleBroken, RuleJudged}
 use Rattle.derivations.specs.Judges.{countedBy, stoodIn, StandsAs}
+
+-- MARKS that are clear
+pub clear-unmarked : {s : List ℕ} → Clear s → Unmarked s
+clear-unmarked c = record { long = omega (arith, c .long); none = c .none }
+
+pub unmarked-clear : {s u : List ℕ} → length u ≡ length s → Clear s → Unmarked u → Clear u
+unmarked-clear e c m = record { long = e ∙ c .long; none = m .none }
 
 -- RULES 9 AND 11
 module _ (p : Progress) (n : ℕ) (t : Tables) (w : Work) where
@@ -80,8 +89,8 @@ module _ (p : Progress) (a b : ℕ) (proof marks : List ℤ) (indexes : List ℕ
 
 -- 16, 9 OR 11
 module _ (p : Progress) (t : Tables) (w : Work) {k : ℕ} where
-  pub expansion-judged : {reason : Reason} {n : ℕ} → reason ≡ Clause n → k ≡ expansionBroken p n t w → RuleJudged p reason t w k (w .seen)
-  expansion-judged e h s = (h ∙ sym (ap (λ r. ruleBroken p r t w) e), s)
+  pub expansion-judged : {reason : Reason} {n : ℕ} {seen : List ℕ} → reason ≡ Clause n → ExpansionJudged p n t w k seen → RuleJudged p reason t w k seen
+  expansion-judged e h s = (h s .0 ∙ sym (ap (λ r. ruleBroken p r t w) e), h s .1)
 
   pub resolution-judged : {reason : Reason} {a b : ℕ} {seen : List ℕ} → reason ≡ Parents a b
       → ParentsJudged p a b (t .proof) (t .marks) (w .indexes) (w .seen) k seen → RuleJudged p reason t w k seen

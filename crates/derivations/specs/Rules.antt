@@ -33,6 +33,9 @@ unfoldable pub parentsBroken : Progress → ℕ → ℕ → List ℤ → List �
 parentsBroken p a b proof marks indexes = byPlaces p proof marks (placeAt indexes a) (placeAt indexes b)
 
 -- where the marks are clear, and they are clear again
+abbrev pub ExpansionJudged : Progress → ℕ → Tables → Work → ℕ → List ℕ → Type 0
+ExpansionJudged p n t w r seen′ = Clear (w .seen) → (r ≡ expansionBroken p n t w) × Clear seen′
+
 abbrev pub ParentsJudged : Progress → ℕ → ℕ → List ℤ → List ℤ → List ℕ → List ℕ → ℕ → List ℕ → Type 0
 ParentsJudged p a b proof marks indexes seen r seen′ = Clear seen → (r ≡ parentsBroken p a b proof marks indexes) × Clear seen′
 

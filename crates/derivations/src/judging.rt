@@ -1,16 +1,16 @@
 // The judge of a clause line that is stored: rules 17, 16, 9 and 11.
 ghost use mathlib.Core.Path.{_≡_};
-ghost use Rattle.tables.specs.Tables.{Tables, six};
-ghost use Rattle.resolvents.specs.Marks.{Clear};
+ghost use Prim.Native.Nat.{_≤_};
+ghost use lib.ListN.{length};
+ghost use Rattle.tables.specs.Tables.{six};
 ghost use Rattle.derivations.specs.Shown.{four};
-ghost use Rattle.derivations.specs.Rules.{expansionBroken, ParentsJudged, RuleJudged};
-ghost use Rattle.derivations.specs.Judges.{countedBy, stoodIn, Judges, StandsAs};
+ghost use Rattle.derivations.specs.Rules.{ExpansionJudged, ParentsJudged, RuleJudged};
+ghost use Rattle.derivations.specs.Judges.{countedBy, Judges, StandsAs};
 use crate::Progress;
 use crate::Reason;
 use crate::Step;
 use cells::larger;
 use cells::wide;
-use clauses::Cursor;
 use indexes::Indexes;
 use mapped::Noted;
 use mapping::Mapped;
@@ -18,10 +18,11 @@ use matrix::Starts;
 use reading::Counts;
 use resolvents::Seen;
 
-// "judged as an `e` line with hint n": the first of the rules 9 and 11 that the pending clause breaks; 0 if none.
+// "judged as an `e` line with hint n": the first of the rules 9 and 11 that the pending clause, of `size` literals, breaks; 0 if none.
 fn expansion_broken(
     p: Progress,
     n: u32,
+    size: usize,
     prefix: &[i32],
     matrix: &[i32],
     map: &[i32],
@@ -31,16 +32,29 @@ fn expansion_broken(
     starts: &Starts,
     noted: &Noted,
     indexes: &Indexes,
-    seen: &Seen,
+    seen: &mut Seen,
+    held: &mut [u16],
 ) -> u32
-    ensures { λ r. ⌜ r ≡ expansionBroken p n
+    ensures { λ r. ⌜ (8194 ≤ length (now (held .entry)) → ExpansionJudged p n
         (six (prefix .entry) (matrix .entry) (map .entry) (proof .entry) (marks .entry) (values .entry))
-        (four (starts .entry) (noted .entry) (indexes .entry) (seen .entry)) ⌝ }
+        (four (starts .entry) (noted .entry) (indexes .entry) (seen .entry)) r (now (seen .exit))) ⌝ }
 {
     let store = p.store;
     if unmapped::all_mapped(proof, clauses::pending(store), noted) {
         let l = clauses::written(store);
-        if expansion::expands_named(prefix, values, map, proof, l, matrix, starts, wide(n)) {
+        if expansion::expands_named(
+            prefix,
+            values,
+            map,
+            proof,
+            l,
+            size,
+            matrix,
+            starts,
+            wide(n),
+            seen,
+            held,
+        ) {
             return 0;
         }
         return 11;
@@ -77,10 +91,11 @@ fn parents_broken(
     16
 }
 
-// The first of the rules 16, 9 and 11 that the pending clause breaks; 0 if none.
+// The first of the rules 16, 9 and 11 that the pending clause, of `size` literals, breaks; 0 if none.
 fn rule_broken(
     p: Progress,
     reason: Reason,
+    size: usize,
     prefix: &[i32],
     matrix: &[i32],
     map: &[i32],
@@ -91,15 +106,17 @@ fn rule_broken(
     noted: &Noted,
     indexes: &Indexes,
     seen: &mut Seen,
+    held: &mut [u16],
 ) -> u32
-    ensures { λ r. ⌜ RuleJudged p reason
+    ensures { λ r. ⌜ (8194 ≤ length (now (held .entry)) → RuleJudged p reason
         (six (prefix .entry) (matrix .entry) (map .entry) (proof .entry) (marks .entry) (values .entry))
-        (four (starts .entry) (noted .entry) (indexes .entry) (seen .entry)) r (now (seen .exit)) ⌝ }
+        (four (starts .entry) (noted .entry) (indexes .entry) (seen .entry)) r (now (seen .exit))) ⌝ }
 {
     match reason {
         Reason::Clause(n) => expansion_broken(
             p,
             n,
+            size,
             prefix,
             matrix,
             map,
@@ -110,6 +127,7 @@ fn rule_broken(
             noted,
             indexes,
             seen,
+            held,
         ),
         Reason::Parents(a, b) => parents_broken(p, a, b, proof, marks, indexes, seen),
     }
@@ -163,7 +181,8 @@ fn stand(
     }
 }
 
-// Rules 17, 16, 9 and 11 of the pending clause, which has index i, n literals and copies up to m: it stands, or is refused.
+// Rules 17, 16, 9 and 11 of the pending clause, which has index i, n literals and copies up to m: it stands, or is refused. In `held`, which has
+// room for every literal of the formula, the test of an expansion lists literals.
 pub fn derive(
     p: Progress,
     i: u32,
@@ -180,12 +199,13 @@ pub fn derive(
     noted: &Noted,
     indexes: &mut Indexes,
     seen: &mut Seen,
+    held: &mut [u16],
 ) -> Step
-    ensures { λ r. ⌜ Judges i reason p n m
+    ensures { λ r. ⌜ (8194 ≤ length (now (held .entry)) → Judges i reason p n m
         (six (prefix .entry) (matrix .entry) (map .entry) (proof .entry) (marks .entry) (values .entry))
         (four (starts .entry) (noted .entry) (indexes .entry) (seen .entry)) r
         (six (prefix .entry) (matrix .entry) (map .entry) (proof .entry) (marks .exit) (values .entry))
-        (four (starts .entry) (noted .entry) (indexes .exit) (seen .exit)) ⌝ }
+        (four (starts .entry) (noted .entry) (indexes .exit) (seen .exit))) ⌝ }
 {
     if indexes::place_of(indexes, i) != 0 {
         return Step::Refuse(17);
@@ -193,6 +213,7 @@ pub fn derive(
     let k = rule_broken(
         p,
         reason,
+        n,
         prefix,
         matrix,
         map,
@@ -203,6 +224,7 @@ pub fn derive(
         noted,
         indexes,
         seen,
+        held,
     );
     if k != 0 {
         return Step::Refuse(k);

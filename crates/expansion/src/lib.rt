@@ -1,6 +1,10 @@
-// Whether an `e` line is an expansion of a matrix clause, over the tables.
+// Whether an `e` line is an expansion of a matrix clause, over the tables. Two arrays are lent for it: `seen` without a mark, and left so;
+// `held` for a list, whatever it holds. How many literals the line has, `size`, decides the way and not the answer.
 use matrix::Starts;
 ghost use mathlib.Core.Path.{_≡_};
+ghost use Prim.Native.Nat.{_≤_};
+ghost use lib.ListN.{length};
+ghost use Rattle.copies.specs.Marks.{Unmarked};
 ghost use Rattle.expansion.specs.Codes.{expandsAt, expandsNamed, expandsAny};
 
 // The line's codes stand in `proof` from place l on, the clause's in `matrix` from place c on, each up to a 0.
@@ -10,16 +14,29 @@ pub fn expands(
     map: &[i32],
     proof: &[i32],
     l: usize,
+    size: usize,
     matrix: &[i32],
     c: usize,
+    seen: &mut [u8],
+    held: &mut [u16],
 ) -> bool
-    ensures { λ r. ⌜ r ≡ expandsAt (now (prefix .entry)) (now (values .entry)) (now (map .entry)) (now (proof .entry)) l
-        (now (matrix .entry)) c ⌝ }
+    ensures { λ r. ⌜ (Unmarked (now (seen .entry)) → 8194 ≤ length (now (held .entry))
+        → (r ≡ expandsAt (now (prefix .entry)) (now (values .entry)) (now (map .entry)) (now (proof .entry)) l (now (matrix .entry)) c)
+        × Unmarked (now (seen .exit))) ⌝ }
 {
-    if literals::first_in_clause(prefix, values, map, proof, l, matrix, c) {
-        if literals::literals_fit(prefix, values, map, proof, l, matrix, c) {
-            return assignment::annotations_fit(prefix, values, map, proof, l, matrix, c);
-        }
+    if literals::literals_fit(prefix, values, map, proof, l, matrix, c, seen) {
+        return assignment::annotations_fit(
+            prefix,
+            values,
+            map,
+            proof,
+            l,
+            size,
+            matrix,
+            c,
+            seen,
+            held,
+        );
     }
     false
 }
@@ -31,12 +48,16 @@ pub fn expands_named(
     map: &[i32],
     proof: &[i32],
     l: usize,
+    size: usize,
     matrix: &[i32],
     starts: &Starts,
     n: usize,
+    seen: &mut [u8],
+    held: &mut [u16],
 ) -> bool
-    ensures { λ r. ⌜ r ≡ expandsNamed (now (prefix .entry)) (now (values .entry)) (now (map .entry)) (now (proof .entry)) l
-        (now (matrix .entry)) (now (starts .entry)) n ⌝ }
+    ensures { λ r. ⌜ (Unmarked (now (seen .entry)) → 8194 ≤ length (now (held .entry))
+        → (r ≡ expandsNamed (now (prefix .entry)) (now (values .entry)) (now (map .entry)) (now (proof .entry)) l
+        (now (matrix .entry)) (now (starts .entry)) n) × Unmarked (now (seen .exit))) ⌝ }
 {
     expands(
         prefix,
@@ -44,8 +65,11 @@ pub fn expands_named(
         map,
         proof,
         l,
+        size,
         matrix,
         matrix::named(starts, n),
+        seen,
+        held,
     )
 }
 
@@ -56,19 +80,23 @@ pub fn expands_any(
     map: &[i32],
     proof: &[i32],
     l: usize,
+    size: usize,
     matrix: &[i32],
     starts: &Starts,
     c: usize,
+    seen: &mut [u8],
+    held: &mut [u16],
 ) -> bool
-    ensures { λ r. ⌜ r ≡ expandsAny (now (prefix .entry)) (now (values .entry)) (now (map .entry)) (now (proof .entry)) l
-        (now (matrix .entry)) (now (starts .entry)) c ⌝ }
+    ensures { λ r. ⌜ (Unmarked (now (seen .entry)) → 8194 ≤ length (now (held .entry))
+        → (r ≡ expandsAny (now (prefix .entry)) (now (values .entry)) (now (map .entry)) (now (proof .entry)) l
+        (now (matrix .entry)) (now (starts .entry)) c) × Unmarked (now (seen .exit))) ⌝ }
 {
     let mut i: usize = 0;
     while i < c {
         let k = matrix::place(starts, i);
         i += 1;
         if literals::first_in_clause(prefix, values, map, proof, l, matrix, k) {
-            if expands(prefix, values, map, proof, l, matrix, k) {
+            if expands(prefix, values, map, proof, l, size, matrix, k, seen, held) {
                 return true;
             }
         }

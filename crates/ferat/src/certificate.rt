@@ -11,7 +11,6 @@ use crate::hint_lines::hints_line;
 use crate::kinds::Kind;
 use crate::kinds::kind_of;
 use crate::mapping_lines::mapping_line;
-use lines::Run;
 use mapped::Noted;
 use matrix::Starts;
 use progress::Progress;
@@ -94,7 +93,7 @@ pub fn read_certificate(
     let mut at = 0;
     let mut n: u32 = 1;
     loop {
-        let e = lines::past(certificate, at, Run::Line);
+        let e = lines::line_end(certificate, at);
         match certificate_line(
             &certificate[at..e],
             q,

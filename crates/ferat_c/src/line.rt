@@ -1,14 +1,13 @@
 // The call for a line's bytes, with C's calling convention.
 ghost use Rattle.lines.specs.Parts.{fileOf};
 ghost use Rattle.ferat_c.specs.Ends.{LineEnds};
-use lines::Run;
 
 // Where a line stands in its file.
 fn line_ends(s: &[u8], line: usize, ends: &mut [usize; 2])
     ensures { λ _. ⌜ LineEnds (now (s .entry)) line (now (ends .exit)) ⌝ }
 {
     let start = lines::line_start(s, line);
-    let end = lines::past(s, start, Run::Line);
+    let end = lines::line_end(s, start);
     *ends = [start, end];
 }
 

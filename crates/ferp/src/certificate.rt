@@ -12,7 +12,6 @@ use crate::mapping_lines::mapping_line;
 use derivations::Progress;
 use derivations::Step;
 use indexes::Indexes;
-use lines::Run;
 use mapped::Noted;
 use matrix::Starts;
 use reading::Ended;
@@ -32,8 +31,10 @@ fn certificate_line(
     noted: &mut Noted,
     indexes: &mut Indexes,
     seen: &mut Seen,
+    held: &mut [u16],
     buffer: &mut [u32],
 ) -> Step
+    requires { ⌜ 8194 ≤ length (now held) ⌝ }
     ensures { λ r. ⌜ AnyLine (now (line .entry)) p
         (six (prefix .entry) (matrix .entry) (map .entry) (proof .entry) (marks .entry) (values .entry))
         (four (starts .entry) (noted .entry) (indexes .entry) (seen .entry)) r
@@ -56,6 +57,7 @@ fn certificate_line(
             noted,
             indexes,
             seen,
+            held,
             buffer,
         ),
     }
@@ -86,9 +88,10 @@ pub fn read_certificate(
     noted: &mut Noted,
     indexes: &mut Indexes,
     seen: &mut Seen,
+    held: &mut [u16],
     buffer: &mut [u32],
 ) -> Ended
-    requires { ⌜ length (now certificate) ≤ 1048576 ⌝ }
+    requires { ⌜ (length (now certificate) ≤ 1048576) × (8194 ≤ length (now held)) ⌝ }
     ensures { λ r. ⌜ CertificateRead (now (certificate .entry)) p
         (six (prefix .entry) (matrix .entry) (map .entry) (proof .entry) (marks .entry) (values .entry))
         (four (starts .entry) (noted .entry) (indexes .entry) (seen .entry)) r
@@ -98,7 +101,7 @@ pub fn read_certificate(
     let mut at = 0;
     let mut n: u32 = 1;
     loop {
-        let e = lines::past(certificate, at, Run::Line);
+        let e = lines::line_end(certificate, at);
         match certificate_line(
             &certificate[at..e],
             q,
@@ -112,6 +115,7 @@ pub fn read_certificate(
             noted,
             indexes,
             seen,
+            held,
             buffer,
         ) {
             Step::Next(t) => {

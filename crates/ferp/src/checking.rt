@@ -5,6 +5,7 @@ ghost use lib.ListN.{length};
 ghost use Rattle.tables.specs.Tables.{six};
 ghost use Rattle.ferp.specs.Check.{begun, FormulaChecked, CheckedIn};
 use crate::certificate::read_certificate;
+use copies::marks::CODES;
 use derivations::Progress;
 use formula::Answer;
 use formula::Reading;
@@ -55,6 +56,7 @@ fn check_certificate(
     let mut noted = [0; 16385];
     let mut indexes = [0; 65537];
     let mut seen = [0; 65536];
+    let mut held = [0; CODES];
     let mut buffer = [0; 4096];
     matrix::index_clauses(matrix, r.used, &mut starts);
     read_certificate(
@@ -70,6 +72,7 @@ fn check_certificate(
         &mut noted,
         &mut indexes,
         &mut seen,
+        &mut held,
         &mut buffer,
     )
 }

@@ -1,4 +1,6 @@
 // The clause line: measured, stored where the proof table is free, then judged there.
+ghost use Prim.Native.Nat.{_≤_};
+ghost use lib.ListN.{length};
 ghost use Rattle.ferp_rules.specs.Forms.{derivationForm};
 ghost use Rattle.tables.specs.Tables.{six};
 ghost use Rattle.derivations.specs.Shown.{four};
@@ -26,8 +28,10 @@ pub fn clause_line(
     noted: &Noted,
     indexes: &mut Indexes,
     seen: &mut Seen,
+    held: &mut [u16],
     buffer: &mut [u32],
 ) -> Step
+    requires { ⌜ 8194 ≤ length (now held) ⌝ }
     ensures { λ r. ⌜ Line derivationForm (now (line .entry)) 0 p
         (six (prefix .entry) (matrix .entry) (map .entry) (proof .entry) (marks .entry) (values .entry))
         (four (starts .entry) (noted .entry) (indexes .entry) (seen .entry)) r
@@ -61,5 +65,6 @@ pub fn clause_line(
         noted,
         indexes,
         seen,
+        held,
     )
 }

@@ -31,7 +31,7 @@ low : (n : ℕ) → 1 ≤ n → n ≤ 9 → Ferp n
 low n a b = (omega arith, inl b)
 
 high : (n : ℕ) → 14 ≤ n → n ≤ 17 → Ferp n
-high n a b = (omega arith, inr (inr a))
+high n a b = (omega arith, inr (inr (a, b)))
 
 eleven : Ferp 11
 eleven = (omega arith, inr (inl refl))

@@ -11,9 +11,9 @@ use Rattle.ferp_rules.specs.Forms.{ferpLine}
 use Rattle.ferp_rules.specs.Resolvent.{resolvent}
 use Rattle.ferp_rules.specs.Lines.{Derived, ferpNeeds, inSequence, inRange, kindRules, accept, certificateEnd, judge, readFerp}
 
--- the numbers of a FERP check, of those in the table: 1 to 9, 11, and from 14 on
+-- the numbers of a FERP check, of those in the table: 1 to 9, 11, and 14 to 17
 abbrev pub FerpNumber : ℕ → Type 0
-FerpNumber n = (n ≤ 9) ⊎ ((n ≡ 11) ⊎ (14 ≤ n))
+FerpNumber n = (n ≤ 9) ⊎ ((n ≡ 11) ⊎ ((14 ≤ n) × (n ≤ 17)))
 
 -- "its counts are expansions, resolutions and 0": no line counts as a deletion
 abbrev pub ofFerp : Read Derived → Checked

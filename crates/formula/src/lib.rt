@@ -11,7 +11,6 @@ use cells::wide;
 use lines::Found;
 use lines::Head;
 use lines::Literal;
-use lines::Run;
 use lists::Clause;
 use lists::Ending;
 use lists::Natural;
@@ -279,7 +278,7 @@ fn read_lines(formula: &[u8], prefix: &mut [i32], matrix: &mut [i32]) -> Answer
     let mut at = 0;
     let mut n: u32 = 1;
     loop {
-        let e = lines::past(formula, at, Run::Line);
+        let e = lines::line_end(formula, at);
         match read_line(&formula[at..e], s, prefix, matrix) {
             Outcome::Next(t) => {
                 s = t;

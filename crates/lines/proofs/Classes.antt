@@ -37,7 +37,7 @@ or-right : (x y : Bool) → y ≡ true → x || y ≡ true
 or-right true y e = refl
 or-right false y e = e
 
-and-true : (x y : Bool) → x && y ≡ true → (x ≡ true) × (y ≡ true)
+pub and-true : (x y : Bool) → x && y ≡ true → (x ≡ true) × (y ≡ true)
 and-true true y e = (refl, e)
 and-true false y e = absurd (false≢true e)
 
@@ -181,3 +181,11 @@ module _ (k : Class) (b : ℕ) where
 
   pub held-not : (Holds k b → ⊥) → isA k b ≡ false
   held-not = untrue (Holds k b) (isA k b) is-held
+
+-- the digits by their range
+pub digit-range : (b : ℕ) → leb 48 b && leb b 57 ≡ isA Digit b
+digit-range b = go (leb 48 b && leb b 57) refl
+  where
+    go : (t : Bool) → leb 48 b && leb b 57 ≡ t → t ≡ isA Digit b
+    go true e = sym (held-is Digit b (from-true 48 57 b e))
+    go false e = sym (held-not Digit b (never (From 48 57 b) (leb 48 b && leb b 57) (true-from 48 57 b) e))

@@ -1,6 +1,6 @@
 -- Laws of the beginning of a line, and of equal words. Assumes nothing.
 use mathlib.Core.Path.{_≡_, refl, ap, ap₂, sym, _∙_}
-use mathlib.Core.Bool.{Bool, true, false, cond, _&&_, _||_}
+use mathlib.Core.Bool.{Bool, true, false, not, cond, _&&_, _||_}
 use mathlib.Core.List.{List, [], _∷_, map}
 use mathlib.Core.Option.{none, some}
 use Prim.Native.Nat.{ℕ, zero, suc, _+_, _-_, _<_, _≤_}
@@ -15,7 +15,7 @@ use Rattle.lines.specs.declared.Run.the-variants.{Word}
 use Rattle.lines.specs.declared.Head.{Head}
 use Rattle.lines.specs.Scan.{passes, run, startAt, endAt, tokensFrom, headOf}
 use Rattle.lines.proofs.Here.{here, past}
-use Rattle.lines.proofs.Runs.{none-left, skipped, one-word}
+use Rattle.lines.proofs.Runs.{run-go, none-left, skipped, starts, one-word}
 use Rattle.lines.proofs.Words.{start, ends, word-long, word-within, tokens-next, the-start, the-end}
 
 module _ (bs : List ℕ) {s : ℕ} (h : s ≡ 0 + run isBlank (drop 0 bs)) where
@@ -35,22 +35,28 @@ module _ (bs : List ℕ) {s : ℕ} (h : s ≡ 0 + run isBlank (drop 0 bs)) where
       sym (ap₂ (λ t u. pick (t || u) (eqb (endAt bs 0) (startAt bs 0 + 1))) (within l)
       (ap (λ n. eqb (getD bs n 0) 99) (start bs 0 h) ∙ eq-eqb (getD bs s 0) 99 c))
 
-  module _ (l : s < length bs) (c : getD bs s 0 ≡ 99 → ⊥) {e : ℕ} (k : e ≡ s + run (passes Word) (drop s bs)) where
+  module _ (l : s < length bs) (c : getD bs s 0 ≡ 99 → ⊥) {r : Bool} (k : r ≡ eqb (run (passes Word) (drop (s + 1) bs)) 0) where
     head-read : headOf bs ≡ cond (eqb (endAt bs 0) (startAt bs 0 + 1)) (Head.Letter (getD bs (startAt bs 0) 0) (endAt bs 0)) Head.Other
     unfolding headOf
     head-read =
         ap₂ (λ t u. pick (t || u) (eqb (endAt bs 0) (startAt bs 0 + 1))) (within l)
         (ap (λ n. eqb (getD bs n 0) 99) (start bs 0 h) ∙ ne-eqb (getD bs s 0) 99 c)
 
-    pub head-one : e ≡ s + 1 → Head.Letter (getD bs s 0) e ≡ headOf bs
-    head-one q =
-        sym (head-read ∙ ap₂ (λ x y. cond (eqb x (y + 1)) (Head.Letter (getD bs y 0) x) Head.Other) (ends bs 0 h k) (start bs 0 h)
-        ∙ ap (λ t. cond t (Head.Letter (getD bs s 0) e) Head.Other) (eq-eqb e (s + 1) q))
+    goes : run (passes Word) (drop s bs) ≡ suc (run (passes Word) (drop (s + 1) bs))
+    goes = run-go (passes Word) bs s l (ap not (starts bs 0 h l))
 
-    pub head-more : (e ≡ s + 1 → ⊥) → Head.Other ≡ headOf bs
+    pub head-one : r ≡ true → Head.Letter (getD bs s 0) (s + 1) ≡ headOf bs
+    head-one q =
+        let e : s + 1 ≡ s + run (passes Word) (drop s bs) = omega (arith, goes, eqb-true (run (passes Word) (drop (s + 1) bs)) 0 (sym k ∙ q)) in
+        sym (head-read ∙ ap₂ (λ x y. cond (eqb x (y + 1)) (Head.Letter (getD bs y 0) x) Head.Other) (ends bs 0 h e) (start bs 0 h)
+        ∙ ap (λ t. cond t (Head.Letter (getD bs s 0) (s + 1)) Head.Other) (eq-eqb (s + 1) (s + 1) refl))
+
+    pub head-more : r ≡ false → Head.Other ≡ headOf bs
     head-more q =
-        sym (head-read ∙ ap₂ (λ x y. cond (eqb x (y + 1)) (Head.Letter (getD bs y 0) x) Head.Other) (ends bs 0 h k) (start bs 0 h)
-        ∙ ap (λ t. cond t (Head.Letter (getD bs s 0) e) Head.Other) (ne-eqb e (s + 1) q))
+        let e : ℕ = s + run (passes Word) (drop s bs) in
+        let n = eqb-false (run (passes Word) (drop (s + 1) bs)) 0 (sym k ∙ q) in
+        sym (head-read ∙ ap₂ (λ x y. cond (eqb x (y + 1)) (Head.Letter (getD bs y 0) x) Head.Other) (ends bs 0 h refl) (start bs 0 h)
+        ∙ ap (λ t. cond t (Head.Letter (getD bs s 0) e) Head.Other) (ne-eqb e (s + 1) (λ y. n (omega (arith, goes)))))
 
 -- equal words
 module _ (a b : List ℕ) (i : ℕ) where

@@ -13,12 +13,15 @@ use Rattle.lines.specs.Lines.{isNumber, value, Token, signed}
 use Rattle.lines.specs.declared.Digits.{Digits}
 use Rattle.lines.specs.declared.Number.{Number}
 use Rattle.lines.specs.Scan.{cap, digitsIn, shown, numberIn}
-use Rattle.lines.specs.declared.Class.the-variants.{Digit, Minus}
+use Rattle.lines.specs.declared.Class.the-variants.{Digit}
 use Rattle.lines.proofs.Here.{here, past}
-use Rattle.lines.proofs.Classes.{is-held, held-is, held-not}
+use Rattle.lines.proofs.Classes.{is-held, held-is}
 
 pub digit-from : (b : ℕ) → isDigit b ≡ true → 48 ≤ b
 digit-from b e = is-held Digit b e .0
+
+pub digit-below : (b : ℕ) → isDigit b ≡ true → b - 48 < 10
+digit-below b e = omega (arith, is-held Digit b e .1)
 
 pub zero-digit : isDigit 48 ≡ true
 zero-digit = held-is Digit 48 (omega arith, omega arith)

@@ -1,17 +1,21 @@
 -- Laws of runs: lines and words. Assumes nothing.
 use mathlib.Core.Path.{_≡_, refl, ap, ap₂, sym, _∙_}
-use mathlib.Core.Bool.{Bool, true, false, not, cond}
+use mathlib.Core.Bool.{Bool, true, false, not, cond, _||_, true≢false}
 use mathlib.Core.List.{List, [], _∷_}
-use Prim.Native.Nat.{ℕ, suc, _+_, _-_, _<_, _≤_}
+use Prim.Native.Nat.{ℕ, zero, suc, _+_, _-_, _<_, _≤_}
 use native.Mathlib.Omega.{arith}
 use lib.ListN.{length, take, drop, getD, length-drop}
 use lib.Seq.{drop-drop, getD-drop}
+use lib.Dec.{eqb}
+use borrow.Author.Tests.{eqb-false}
 use Rattle.lines.specs.Lists.{keep, isEmpty}
 use Rattle.lines.specs.Bytes.{isLineEnd, isBlank}
 use Rattle.lines.specs.Lines.{split, longer, linesOf, wordsOf}
+use Rattle.lines.specs.declared.Class.the-variants.{LineEnd}
 use Rattle.lines.specs.declared.Run.the-variants.{Line, Word}
 use Rattle.lines.specs.Scan.{passes, run}
 use Rattle.lines.proofs.Here.{here, past}
+use Rattle.lines.proofs.Classes.{held-not}
 
 module _ (p : ℕ → Bool) where
   pub run-le : (bs : List ℕ) → run p bs ≤ length bs
@@ -35,6 +39,10 @@ module _ (p : ℕ → Bool) where
     pub run-go : i < length bs → p (getD bs i 0) ≡ true → run p (drop i bs) ≡ suc (run p (drop (i + 1) bs))
     unfolding run
     run-go h e = rw (here bs i h, e)
+
+or-false : (x y : Bool) → x || y ≡ false → (x ≡ false) × (y ≡ false)
+or-false true y e = absurd (true≢false e)
+or-false false y e = (refl, e)
 
 -- LINES
 pub after : List ℕ → List (List ℕ)
@@ -68,6 +76,24 @@ module _ (bs : List ℕ) (at : ℕ) {e : ℕ} (h : e ≡ at + run (passes Line) 
 
   pub line-within : at ≤ length bs → e ≤ length bs
   line-within l = omega (arith, run-le (passes Line) (drop at bs), length-drop at bs)
+
+-- a block of bytes, none of which ends the line
+module _ (bs : List ℕ) (i : ℕ) where
+  -- whether one of n + 1 bytes is byte 10
+  abbrev endsWithin : ℕ → Bool
+  endsWithin zero = eqb (getD bs i 0) 10
+  endsWithin (suc n) = endsWithin n || eqb (getD bs (i + suc n) 0) 10
+
+  byte-passed : (j : ℕ) → j < length bs → eqb (getD bs j 0) 10 ≡ false → run (passes Line) (drop j bs) ≡ suc (run (passes Line) (drop (j + 1) bs))
+  byte-passed j h e = run-go (passes Line) bs j h (ap not (held-not LineEnd (getD bs j 0) (eqb-false (getD bs j 0) 10 e)))
+
+  pub block-passed : (n : ℕ) → i + suc n ≤ length bs → endsWithin n ≡ false → run (passes Line) (drop i bs) ≡ suc n + run (passes Line) (drop (i + suc n) bs)
+  block-passed zero h e = byte-passed i (omega arith) e ∙ omega arith
+  block-passed (suc n) h e =
+      let k = or-false (endsWithin n) (eqb (getD bs (i + suc n) 0) 10) e in
+      let p : i + suc n + 1 ≡ i + suc (suc n) = omega arith in
+      let r = byte-passed (i + suc n) (omega arith) (k .1) ∙ ap (λ m. suc (run (passes Line) (drop m bs))) p in
+      block-passed n (omega arith) (k .0) ∙ ap (λ m. suc n + m) r ∙ omega arith
 
 -- WORDS
 front : ℕ → List (List ℕ) → List (List ℕ)

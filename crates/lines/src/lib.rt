@@ -1,14 +1,15 @@
 // Bytes, lines, tokens and numbers of a file; the call for a line's bytes.
 ghost use mathlib.Core.Path.{_≡_};
-ghost use mathlib.Core.Bool.{cond};
+ghost use mathlib.Core.Bool.{true, false, cond};
 ghost use Prim.Native.Nat.{ℕ, _+_, _*_, _-_, _<_, _≤_, min};
 ghost use lib.Dec.{eqb};
-ghost use lib.ListN.{take, drop};
+ghost use lib.ListN.{length, take, drop, getD};
 ghost use Rattle.lines.specs.declared.Digits.{Digits};
-ghost use Rattle.lines.specs.declared.Unsigned.{Unsigned};
-ghost use Rattle.lines.specs.declared.Run.the-variants.{Word};
-ghost use Rattle.lines.specs.Bytes.{classOf, rank, isA, isMinus, sameBytes};
-ghost use Rattle.lines.specs.Scan.{passes, run, digitsIn, numberIn, literalAt, endedAt, wordIs, headOf, cap};
+ghost use Rattle.lines.specs.declared.Literal.{Literal};
+ghost use Rattle.lines.specs.declared.Plain.{Plain};
+ghost use Rattle.lines.specs.declared.Run.the-variants.{Line, Word};
+ghost use Rattle.lines.specs.Bytes.{classOf, rank, isA, isDigit, isMinus, sameBytes};
+ghost use Rattle.lines.specs.Scan.{passes, run, digitsIn, numberIn, startAt, literalAt, endedAt, wordIs, headOf, cap};
 ghost use Rattle.lines.specs.Parts.{lineStart, fileOf, LinePart};
 
 // The classes of bytes.
@@ -81,6 +82,38 @@ pub fn past(s: &[u8], at: usize, k: Run) -> usize
             return i;
         }
         i += 1;
+    }
+    i
+}
+
+// Whether one of the eight bytes from a place on ends a line.
+fn ends_within(s: &[u8], i: usize) -> bool
+    requires { ⌜ i + 8 ≤ length (now s) ⌝ }
+    ensures { λ r. ⌜ (r ≡ false → run (passes Line) (drop i (now (s .entry))) ≡ 8 + run (passes Line) (drop (i + 8) (now (s .entry)))) ⌝ }
+{
+    (s[i] == 10)
+        | (s[i + 1] == 10)
+        | (s[i + 2] == 10)
+        | (s[i + 3] == 10)
+        | (s[i + 4] == 10)
+        | (s[i + 5] == 10)
+        | (s[i + 6] == 10)
+        | (s[i + 7] == 10)
+}
+
+// The place of the line's end, as `past` has it; eight bytes at a time.
+pub fn line_end(s: &[u8], at: usize) -> usize
+    ensures { λ r. ⌜ r ≡ at + run (passes Line) (drop at (now (s .entry))) ⌝ }
+{
+    let mut i = at;
+    while i < s.len() {
+        if s.len() - i < 8 {
+            return past(s, i, Run::Line);
+        }
+        if ends_within(s, i) {
+            return past(s, i, Run::Line);
+        }
+        i += 8;
     }
     i
 }
@@ -186,59 +219,102 @@ fn word_ends(line: &[u8], at: usize) -> bool
     is_a(Class::Blank, line[at])
 }
 
-// A number without a sign, at most the cap, and the place after it; or nothing is said of the word.
-enum Unsigned {
+// A number or a literal's code, and the place after it; or nothing is said of the word.
+pub enum Plain {
     Of(u32, usize),
     Unread,
 }
 
-// The number that the word from a place on is, in one walk over its bytes.
-fn unsigned_at(line: &[u8], from: usize) -> Unsigned
-    ensures { λ r. ⌜ ((v e : ℕ) → r ≡ Unsigned.Of v e → (e ≡ from + run (passes Word) (drop from (now (line .entry))))
+// Whether another digit can follow: there is no leading zero, and the number stays below the cap.
+fn grows(v: u32) -> bool
+    ensures { λ r. ⌜ (r ≡ true → (0 < v) × (v < 10000000)) ⌝ }
+{
+    (0 < v) & (v < 10000000)
+}
+
+fn is_digit(b: u8) -> bool
+    ensures { λ r. ⌜ r ≡ isDigit b ⌝ }
+{
+    (b'0' <= b) & (b <= b'9')
+}
+
+// The number without a sign that the word from a place on is, in one walk over its bytes, if it has at most eight digits.
+fn unsigned_at(line: &[u8], from: usize) -> Plain
+    ensures { λ r. ⌜ ((v e : ℕ) → r ≡ Plain.Of v e → (e ≡ from + run (passes Word) (drop from (now (line .entry))))
         × (digitsIn (take (e - from) (drop from (now (line .entry)))) ≡ Digits.Value v)) ⌝ }
 {
     if line.len() <= from {
-        return Unsigned::Unread;
+        return Plain::Unread;
     }
     let first = line[from];
-    if first == b'0' {
-        if word_ends(line, from + 1) {
-            return Unsigned::Of(0, from + 1);
-        }
-        return Unsigned::Unread;
+    if !is_digit(first) {
+        return Plain::Unread;
     }
-    if !is_a(Class::Digit, first) {
-        return Unsigned::Unread;
-    }
-    let mut v = with_digit(0, first);
+    let mut v = (first - b'0') as u32;
     let mut i = from + 1;
     while i < line.len() {
         let b = line[i];
-        if !is_a(Class::Digit, b) {
-            if word_ends(line, i) {
-                return Unsigned::Of(v, i);
+        if !is_digit(b) {
+            if is_a(Class::Blank, b) {
+                return Plain::Of(v, i);
             }
-            return Unsigned::Unread;
+            return Plain::Unread;
         }
-        v = with_digit(v, b);
+        if !grows(v) {
+            return Plain::Unread;
+        }
+        v = v * 10 + (b - b'0') as u32;
         i += 1;
     }
-    Unsigned::Of(v, i)
+    Plain::Of(v, i)
 }
 
-// The next token as a literal, or as the zero that ends a list. A well-formed number is read in one walk, any other token by `number_of`.
+// The place after one blank, if there is one: the next word from there on is the same.
+fn after_blank(line: &[u8], at: usize) -> usize
+    ensures { λ r. ⌜ startAt (now (line .entry)) r ≡ startAt (now (line .entry)) at ⌝ }
+{
+    if at < line.len() {
+        if is_a(Class::Blank, line[at]) {
+            return at + 1;
+        }
+    }
+    at
+}
+
+// 1 if a minus is at the place, else 0.
+fn minus_at(line: &[u8], s: usize) -> u32
+    ensures { λ r. ⌜ r ≡ cond (isMinus (getD (now (line .entry)) s 0)) 1 0 ⌝ }
+{
+    if s < line.len() {
+        return sign_of(line[s]);
+    }
+    0
+}
+
+// The next token as a literal, or as the zero that ends a list, in one walk, if at most one blank is before it and it is well-formed and short.
+pub fn plain_at(line: &[u8], at: usize) -> Plain
+    ensures { λ r. ⌜ ((x e : ℕ) → r ≡ Plain.Of x e → literalAt (now (line .entry)) at ≡ Literal.Of x e) ⌝ }
+{
+    let s = after_blank(line, at);
+    let sign = minus_at(line, s);
+    if let Plain::Of(v, e) = unsigned_at(line, s + sign as usize) {
+        if sign <= v {
+            return Plain::Of(2 * v + sign, e);
+        }
+    }
+    Plain::Unread
+}
+
+// The next token as a literal, or as the zero that ends a list. What `plain_at` does not read is read by `number_of`.
 pub fn literal_at(line: &[u8], at: usize) -> Literal
     ensures { λ r. ⌜ r ≡ literalAt (now (line .entry)) at ⌝ }
 {
+    if let Plain::Of(x, e) = plain_at(line, at) {
+        return Literal::Of(x, e);
+    }
     let s = past(line, at, Run::Blanks);
     if line.len() <= s {
         return Literal::Bad;
-    }
-    let sign = sign_of(line[s]);
-    if let Unsigned::Of(v, e) = unsigned_at(line, s + sign as usize) {
-        if sign <= v {
-            return Literal::Of(2 * v + sign, e);
-        }
     }
     let e = past(line, s, Run::Word);
     let Number::Of(x) = number_of(&line[s..e]) else {
@@ -308,9 +384,8 @@ pub fn line_head(line: &[u8]) -> Head
     if b == b'c' {
         return Head::Skipped;
     }
-    let e = past(line, s, Run::Word);
-    if e == s + 1 {
-        return Head::Letter(b, e);
+    if word_ends(line, s + 1) {
+        return Head::Letter(b, s + 1);
     }
     Head::Other
 }
@@ -325,7 +400,7 @@ pub fn line_start(s: &[u8], line: usize) -> usize
     let mut at = 0;
     let mut left = line - 1;
     while 0 < left {
-        let e = past(s, at, Run::Line);
+        let e = line_end(s, at);
         if s.len() <= e {
             return s.len();
         }
@@ -340,7 +415,7 @@ fn line_part(s: &[u8], line: usize) -> &[u8]
     ensures { λ r. ⌜ LinePart (s .entry) line r ⌝ }
 {
     let at = line_start(s, line);
-    let e = past(s, at, Run::Line);
+    let e = line_end(s, at);
     &s[at..e]
 }
 

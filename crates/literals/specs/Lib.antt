@@ -1,2 +1,3 @@
--- The line's literals against the clause's.
+-- The line's literals against the clause's, and marks.
 pub mod Literals
+pub mod Marks

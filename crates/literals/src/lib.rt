@@ -1,14 +1,13 @@
-// The line's literals against the clause's.
+// The line's literals against the clause's, through marks in a lent array, which are taken back.
 use copies::marks;
-use copies::marks::CODES;
-use copies::marks::Seen;
 use copies::read;
 ghost use mathlib.Core.Path.{_≡_};
+ghost use lib.ListN.{set};
 ghost use Rattle.lines.specs.Lists.{all};
-ghost use Rattle.rules.specs.Basics.{isIn};
-ghost use Rattle.copies.specs.Marks.{Marking};
-ghost use Rattle.copies.specs.Copies.{imagesOf, words, standsIn, listIn};
-ghost use Rattle.literals.specs.Literals.{inClause, firstIn, inLine, literalsFit};
+ghost use Rattle.copies.specs.Marks.{Unmarked};
+ghost use Rattle.copies.specs.Copies.{imageOf, words, standsIn, listIn};
+ghost use Rattle.literals.specs.Literals.{firstIn, inLine, literalsFit};
+ghost use Rattle.literals.specs.Marks.{isMarked, meets, stampedBy, stamped, answered, cleared};
 
 // Without marks: most clauses that do not fit are told by the line's first literal.
 pub fn first_in_clause(
@@ -33,20 +32,24 @@ pub fn first_in_clause(
     false
 }
 
-// Whether y is among the codes from place a on, which are marked, as far as the marks go.
-fn marked(seen: &[u8], t: &[i32], a: usize, y: usize) -> bool
-    requires { ⌜ Marking (now seen) (listIn t a) ⌝ }
-    ensures { λ r. ⌜ r ≡ isIn (listIn (t .entry) a) y ⌝ }
+// Whether code y has a mark, which becomes 2; one without a place is looked for in the clause.
+fn stamp_code(seen: &mut [u8], matrix: &[i32], c: usize, y: usize) -> bool
+    ensures { λ r. ⌜ (r ≡ isMarked (listIn (matrix .entry) c) (now (seen .entry)) y)
+        × (now (seen .exit) ≡ stamped r y (now (seen .entry))) ⌝ }
 {
     if y < seen.len() {
-        return seen[y] == 1;
+        if seen[y] != 0 {
+            seen[y] = 2;
+            return true;
+        }
+        return false;
     }
-    marks::has(t, a, y)
+    marks::has(matrix, c, y)
 }
 
-// The literal x stands for an existential literal of the clause, whose codes are marked.
-fn in_clause(
-    seen: &[u8],
+// The literal x stands for an existential literal of the clause, whose mark becomes 2.
+fn stamp_literal(
+    seen: &mut [u8],
     prefix: &[i32],
     values: &[i32],
     map: &[i32],
@@ -54,17 +57,20 @@ fn in_clause(
     c: usize,
     x: usize,
 ) -> bool
-    requires { ⌜ Marking (now seen) (listIn matrix c) ⌝ }
-    ensures { λ r. ⌜ r ≡ inClause (words (prefix .entry)) (standsIn (values .entry) (map .entry)) (listIn (matrix .entry) c) x ⌝ }
+    ensures { λ r. ⌜ (r ≡ meets (words (prefix .entry)) (standsIn (values .entry) (map .entry)) (listIn (matrix .entry) c)
+        (now (seen .entry)) x)
+        × (now (seen .exit) ≡ stamped r (imageOf (standsIn (values .entry) (map .entry)) x) (now (seen .entry))) ⌝ }
 {
-    if prefix::existential(prefix, copies::stands(values, map, x / 2)) {
-        return marked(seen, matrix, c, copies::image(values, map, x));
+    let e = copies::stands(values, map, x / 2);
+    if prefix::existential(prefix, e) {
+        return stamp_code(seen, matrix, c, 2 * e + x % 2);
     }
     false
 }
 
-fn line_in_clause(
-    seen: &[u8],
+// Each literal of the line does so; the walk stops at one that does not.
+fn stamp_line(
+    seen: &mut [u8],
     prefix: &[i32],
     values: &[i32],
     map: &[i32],
@@ -73,9 +79,10 @@ fn line_in_clause(
     matrix: &[i32],
     c: usize,
 ) -> bool
-    requires { ⌜ Marking (now seen) (listIn matrix c) ⌝ }
-    ensures { λ r. ⌜ r ≡ all (inClause (words (prefix .entry)) (standsIn (values .entry) (map .entry))
-        (listIn (matrix .entry) c)) (listIn (proof .entry) l) ⌝ }
+    ensures { λ r. ⌜ (r ≡ all (meets (words (prefix .entry)) (standsIn (values .entry) (map .entry)) (listIn (matrix .entry) c)
+        (now (seen .entry))) (listIn (proof .entry) l))
+        × (now (seen .exit) ≡ stampedBy (words (prefix .entry)) (standsIn (values .entry) (map .entry)) (listIn (matrix .entry) c)
+        (listIn (proof .entry) l) (now (seen .entry))) ⌝ }
 {
     let mut i = l;
     loop {
@@ -83,7 +90,7 @@ fn line_in_clause(
         if x == 0 {
             return true;
         }
-        if in_clause(seen, prefix, values, map, matrix, c, x) {
+        if stamp_literal(seen, prefix, values, map, matrix, c, x) {
             i += 1;
         } else {
             return false;
@@ -91,20 +98,19 @@ fn line_in_clause(
     }
 }
 
-// Whether a literal of the line stands for y; what they stand for is marked, as far as the marks go.
-fn stood_for(images: &[u8], values: &[i32], map: &[i32], proof: &[i32], l: usize, y: usize) -> bool
-    requires { ⌜ Marking (now images) (imagesOf (standsIn values map) (listIn proof l)) ⌝ }
-    ensures { λ r. ⌜ r ≡ isIn (imagesOf (standsIn (values .entry) (map .entry)) (listIn (proof .entry) l)) y ⌝ }
+// If literal y is existential, one of the line stands for it. Without marks.
+fn in_line(prefix: &[i32], values: &[i32], map: &[i32], proof: &[i32], l: usize, y: usize) -> bool
+    ensures { λ r. ⌜ r ≡ inLine (words (prefix .entry)) (standsIn (values .entry) (map .entry)) (listIn (proof .entry) l) y ⌝ }
 {
-    if y < images.len() {
-        return images[y] == 1;
+    if prefix::existential(prefix, y / 2) {
+        return copies::has_image(values, map, proof, l, y);
     }
-    copies::has_image(values, map, proof, l, y)
+    true
 }
 
-// If literal y is existential, one of the line stands for it; what they stand for is marked.
-fn in_line(
-    images: &[u8],
+// Takes the mark of literal y back. If y is existential, it may not be 1 still; without a place, y is looked for in the line.
+fn clear_code(
+    seen: &mut [u8],
     prefix: &[i32],
     values: &[i32],
     map: &[i32],
@@ -112,17 +118,24 @@ fn in_line(
     l: usize,
     y: usize,
 ) -> bool
-    requires { ⌜ Marking (now images) (imagesOf (standsIn values map) (listIn proof l)) ⌝ }
-    ensures { λ r. ⌜ r ≡ inLine (words (prefix .entry)) (standsIn (values .entry) (map .entry)) (listIn (proof .entry) l) y ⌝ }
+    ensures { λ r. ⌜ (r ≡ answered (words (prefix .entry)) (standsIn (values .entry) (map .entry)) (listIn (proof .entry) l)
+        (now (seen .entry)) y)
+        × (now (seen .exit) ≡ set (now (seen .entry)) y 0) ⌝ }
 {
-    if prefix::existential(prefix, y / 2) {
-        return stood_for(images, values, map, proof, l, y);
+    if y < seen.len() {
+        let m = seen[y];
+        seen[y] = 0;
+        if m == 1 {
+            return !prefix::existential(prefix, y / 2);
+        }
+        return true;
     }
-    true
+    in_line(prefix, values, map, proof, l, y)
 }
 
-fn each_in_line(
-    images: &[u8],
+// The same for each literal of the clause; all marks are taken back, whatever the answer.
+fn take_back(
+    seen: &mut [u8],
     prefix: &[i32],
     values: &[i32],
     map: &[i32],
@@ -131,99 +144,23 @@ fn each_in_line(
     matrix: &[i32],
     c: usize,
 ) -> bool
-    requires { ⌜ Marking (now images) (imagesOf (standsIn values map) (listIn proof l)) ⌝ }
-    ensures { λ r. ⌜ r ≡ all (inLine (words (prefix .entry)) (standsIn (values .entry) (map .entry))
-        (listIn (proof .entry) l)) (listIn (matrix .entry) c) ⌝ }
+    ensures { λ r. ⌜ (r ≡ all (answered (words (prefix .entry)) (standsIn (values .entry) (map .entry)) (listIn (proof .entry) l)
+        (now (seen .entry))) (listIn (matrix .entry) c))
+        × (now (seen .exit) ≡ cleared (listIn (matrix .entry) c) (now (seen .entry))) ⌝ }
 {
+    let mut all = true;
     let mut i = c;
     loop {
         let y = read::code(matrix, i);
         if y == 0 {
-            return true;
-        }
-        if in_line(images, prefix, values, map, proof, l, y) {
-            i += 1;
-        } else {
-            return false;
-        }
-    }
-}
-
-// The line's literals stand for the clause's existential ones; what is looked for is marked, as far as the marks go.
-fn fit_by(
-    seen: &[u8],
-    images: &[u8],
-    prefix: &[i32],
-    values: &[i32],
-    map: &[i32],
-    proof: &[i32],
-    l: usize,
-    matrix: &[i32],
-    c: usize,
-) -> bool
-    requires { ⌜ Marking (now seen) (listIn matrix c) × Marking (now images) (imagesOf (standsIn values map) (listIn proof l)) ⌝ }
-    ensures { λ r. ⌜ r ≡ literalsFit (words (prefix .entry)) (standsIn (values .entry) (map .entry))
-        (listIn (proof .entry) l) (listIn (matrix .entry) c) ⌝ }
-{
-    if line_in_clause(seen, prefix, values, map, proof, l, matrix, c) {
-        return each_in_line(images, prefix, values, map, proof, l, matrix, c);
-    }
-    false
-}
-
-// The same, with marks for every code of a formula's literal.
-fn fit_seen(
-    seen: &Seen,
-    images: &Seen,
-    prefix: &[i32],
-    values: &[i32],
-    map: &[i32],
-    proof: &[i32],
-    l: usize,
-    matrix: &[i32],
-    c: usize,
-) -> bool
-    requires { ⌜ Marking (now seen) (listIn matrix c) × Marking (now images) (imagesOf (standsIn values map) (listIn proof l)) ⌝ }
-    ensures { λ r. ⌜ r ≡ literalsFit (words (prefix .entry)) (standsIn (values .entry) (map .entry))
-        (listIn (proof .entry) l) (listIn (matrix .entry) c) ⌝ }
-{
-    fit_by(seen, images, prefix, values, map, proof, l, matrix, c)
-}
-
-fn fit_marked(
-    prefix: &[i32],
-    values: &[i32],
-    map: &[i32],
-    proof: &[i32],
-    l: usize,
-    matrix: &[i32],
-    c: usize,
-) -> bool
-    ensures { λ r. ⌜ r ≡ literalsFit (words (prefix .entry)) (standsIn (values .entry) (map .entry))
-        (listIn (proof .entry) l) (listIn (matrix .entry) c) ⌝ }
-{
-    let mut seen = [0u8; CODES];
-    let mut images = [0u8; CODES];
-    marks::mark(&mut seen, matrix, c);
-    copies::mark_images(&mut images, values, map, proof, l);
-    fit_seen(&seen, &images, prefix, values, map, proof, l, matrix, c)
-}
-
-// Whether a list of codes has fewer than 16.
-fn is_short(t: &[i32], a: usize) -> bool {
-    let mut i = a;
-    let mut n: u32 = 16;
-    while 0 < n {
-        n -= 1;
-        if read::code(t, i) == 0 {
-            return true;
+            return all;
         }
         i += 1;
+        all = all & clear_code(seen, prefix, values, map, proof, l, y);
     }
-    false
 }
 
-// The line's literals stand for the clause's existential ones. Short lists are searched without marks.
+// The line's literals stand for the clause's existential ones. The lent array has no marks, before and after.
 pub fn literals_fit(
     prefix: &[i32],
     values: &[i32],
@@ -232,14 +169,13 @@ pub fn literals_fit(
     l: usize,
     matrix: &[i32],
     c: usize,
+    seen: &mut [u8],
 ) -> bool
-    ensures { λ r. ⌜ r ≡ literalsFit (words (prefix .entry)) (standsIn (values .entry) (map .entry))
-        (listIn (proof .entry) l) (listIn (matrix .entry) c) ⌝ }
+    ensures { λ r. ⌜ (Unmarked (now (seen .entry)) → (r ≡ literalsFit (words (prefix .entry)) (standsIn (values .entry) (map .entry))
+        (listIn (proof .entry) l) (listIn (matrix .entry) c)) × Unmarked (now (seen .exit))) ⌝ }
 {
-    if is_short(proof, l) {
-        if is_short(matrix, c) {
-            return fit_by(b"", b"", prefix, values, map, proof, l, matrix, c);
-        }
-    }
-    fit_marked(prefix, values, map, proof, l, matrix, c)
+    marks::mark(seen, matrix, c);
+    let a = stamp_line(seen, prefix, values, map, proof, l, matrix, c);
+    let b = take_back(seen, prefix, values, map, proof, l, matrix, c);
+    a & b
 }

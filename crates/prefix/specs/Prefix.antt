@@ -26,6 +26,10 @@ module _ (w : ℕ → ℕ) where
   unfoldable pub dependency : ℕ → ℕ → Bool
   dependency e u = cond (isUniversal u) (ltb (w u) (w e)) false
 
+  -- of two existentials the one further left, f where e is 0
+  unfoldable pub narrower : ℕ → ℕ → ℕ
+  narrower e f = cond (eqb e 0) f (cond (ltb (w e) (w f)) e f)
+
 -- the number of a quantifier
 abbrev pub kindOf : Bound → ℕ
 kindOf (forAll v) = 1

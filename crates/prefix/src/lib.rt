@@ -4,7 +4,7 @@ ghost use lib.ListN.{replicate};
 ghost use Rattle.lines.specs.Lists.{all};
 ghost use Rattle.cells.specs.Cells.{listAt};
 ghost use Rattle.lists.specs.Stores.{puts};
-ghost use Rattle.prefix.specs.Prefix.{entry, isUniversal, isExistential, dependency, isBound};
+ghost use Rattle.prefix.specs.Prefix.{entry, isUniversal, isExistential, dependency, narrower, isBound};
 use cells::wide;
 
 // The word of a variable or of a copy, in a table with a place for each; 0 for variable 0 and past the end.
@@ -41,6 +41,19 @@ pub fn depends(prefix: &[i32], e: usize, u: usize) -> bool
         return word(prefix, u) < word(prefix, e);
     }
     false
+}
+
+// Of two existentials the one whose dependency set lies within the other's; f where e is 0.
+pub fn narrower(prefix: &[i32], e: usize, f: usize) -> usize
+    ensures { λ r. ⌜ r ≡ narrower (entry (now (prefix .entry))) e f ⌝ }
+{
+    if e == 0 {
+        return f;
+    }
+    if word(prefix, e) < word(prefix, f) {
+        return e;
+    }
+    f
 }
 
 // The word of a variable in the prefix table: 0 if it is not bound.

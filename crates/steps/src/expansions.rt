@@ -8,6 +8,7 @@ ghost use Rattle.steps.specs.Stands.{oneExpansion};
 ghost use Rattle.steps.specs.Expands.{hintAt, fitsAt, ruleBroken};
 use crate::additions::stand;
 use cells::wide;
+use copies::marks::CODES;
 use mapped::Noted;
 use matrix::Starts;
 use progress::Progress;
@@ -26,9 +27,10 @@ fn hint_at(proof: &[i32], e: u32) -> usize
     wide(cells::code(proof, wide(e)) / 2)
 }
 
-// Whether the pending clause is an expansion of the clause that its hint names; without hints, of any clause.
+// Whether the pending clause, of `size` literals, is an expansion of the clause that its hint names; without hints, of any clause.
 fn fits(
     p: Progress,
+    size: usize,
     prefix: &[i32],
     matrix: &[i32],
     map: &[i32],
@@ -40,19 +42,46 @@ fn fits(
     ensures { λ r. ⌜ r ≡ fitsAt p
         (six (prefix .entry) (matrix .entry) (map .entry) (proof .entry) (marks .entry) (values .entry)) (now (starts .entry)) ⌝ }
 {
+    let mut seen = [0u8; CODES];
+    let mut held = [0u16; CODES];
     let store = p.store;
     let l = clauses::written(store);
     if p.hinted.given {
         let n = hint_at(proof, p.counts.expansions);
-        return expansion::expands_named(prefix, values, map, proof, l, matrix, starts, n);
+        return expansion::expands_named(
+            prefix,
+            values,
+            map,
+            proof,
+            l,
+            size,
+            matrix,
+            starts,
+            n,
+            &mut seen,
+            &mut held,
+        );
     }
     let c = wide(p.formula.c);
-    expansion::expands_any(prefix, values, map, proof, l, matrix, starts, c)
+    expansion::expands_any(
+        prefix,
+        values,
+        map,
+        proof,
+        l,
+        size,
+        matrix,
+        starts,
+        c,
+        &mut seen,
+        &mut held,
+    )
 }
 
-// The first of the rules 9, 10 and 11 that the pending clause breaks; 0 if none.
+// The first of the rules 9, 10 and 11 that the pending clause, of `size` literals, breaks; 0 if none.
 fn rule_broken(
     p: Progress,
+    size: usize,
     prefix: &[i32],
     matrix: &[i32],
     map: &[i32],
@@ -73,7 +102,7 @@ fn rule_broken(
         if hint_missing(p) {
             return 10;
         }
-        if fits(p, prefix, matrix, map, proof, marks, values, starts) {
+        if fits(p, size, prefix, matrix, map, proof, marks, values, starts) {
             return 0;
         }
         return 11;
@@ -116,6 +145,7 @@ pub fn expand(
 {
     let k = rule_broken(
         p,
+        n,
         prefix,
         matrix,
         map,

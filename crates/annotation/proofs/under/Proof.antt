@@ -1,6 +1,5 @@
-use mathlib.Core.Path.{sym, _∙_}
-use Rattle.mapped.proofs.NumberLaws.{ruled-no}
-use Rattle.annotation.proofs.AnnotationLaws.{under-is, under-ruled}
+use borrow.Author.Tests.{eq-eqb, ne-eqb}
+use Rattle.annotation.specs.Annotation.{underOne}
 use borrow.Author.Needs.{needs}
 use Rattle.annotation.proofs.under.Statement.{statement}
 use Rattle.annotation.proofs.under.Tie as tie
@@ -8,14 +7,16 @@ use Rattle.annotation.proofs.under.Tie as tie
 universal-requires : tie.Need-universal-requires
 universal-requires c κs = search needs
 
-all-depend-requires : tie.Need-all-depend-requires
-all-depend-requires c κs = search needs
-
 returns : tie.Need-returns
-returns c = under-ruled _ _ _ _ (c .all-depend .ensures) (sym (c .before .before .universal .ensures) ∙ c .before .if1 .taken)
+unfolding underOne
+returns c = rw (eq-eqb _ _ (c .before .if1 .taken)) (c .universal .ensures)
+
+depends-requires : tie.Need-depends-requires
+depends-requires c κs = search needs
 
 returns-2 : tie.Need-returns-2
-returns-2 c = ruled-no 8 _ (sym (under-is _ _ _ (sym (c .before .universal .ensures) ∙ c .if1 .left)))
+unfolding underOne
+returns-2 c = rw (ne-eqb _ _ (c .before .if1 .left)) (c .depends .ensures)
 
 pub under-spec : {M : Type 1} → statement M
-under-spec = tie.close (tie.spec universal-requires all-depend-requires returns returns-2)
+under-spec = tie.close (tie.spec universal-requires returns depends-requires returns-2)

@@ -21,24 +21,17 @@ loop-holds c = (omega arith, omega arith)
 sub-i : tie.Need-sub-i Inv-loop μ-loop
 sub-i c = omega arith
 
-mul-wide : tie.Need-mul-wide Inv-loop μ-loop
-mul-wide c = omega arith
-
-element-copy-out-wide : tie.Need-element-copy-out-wide Inv-loop μ-loop
-element-copy-out-wide c = omega arith
-
-wide-requires : tie.Need-wide-requires Inv-loop μ-loop
-wide-requires c κs = search needs
+code-at-requires : tie.Need-code-at-requires Inv-loop μ-loop
+code-at-requires c κs = search needs
 
 tally-requires : tie.Need-tally-requires Inv-loop μ-loop
-tally-requires c κs = omega arith
+tally-requires c κs = let a = c .before .before .loop .inv .0 in let b = c .before .before .before .before .pre in omega (arith, a, b)
 
 loop-less : tie.Need-loop-less Inv-loop μ-loop
 loop-less c = omega arith
 
 loop-again : tie.Need-loop-again Inv-loop μ-loop
-loop-again c = let s = c .before .before .before in
-    (let z = tally-one (entry (s .before .before .args .prefix .now)) (s .before .before .args .e) (c .before .wide .result) in omega (arith, c .tally .ensures), size-turn _ _ _ _ _ (s .before .loop .inv .1) (s .loop-test .taken) (c .before .wide .ensures .0) (c .tally .ensures))
+loop-again c = (let z = tally-one (entry (c .before .before .before .before .before .args .prefix .now)) (c .before .before .before .before .before .args .e) (c .before .code-at .result) in omega (arith, c .tally .ensures), size-turn _ _ _ _ _ (c .before .before .before .loop .inv .1) (c .before .before .loop-test .taken) (c .before .code-at .ensures .0) (c .tally .ensures))
 
 returns : tie.Need-returns Inv-loop μ-loop
 returns c = (size-end _ _ _ _ _ (c .before .loop .inv .1) (c .loop-test .left), omega arith)
@@ -51,9 +44,7 @@ part-size-spec =
     μ-loop
     loop-holds
     sub-i
-    mul-wide
-    element-copy-out-wide
-    wide-requires
+    code-at-requires
     tally-requires
     loop-less
     loop-again

@@ -7,8 +7,8 @@ use Rattle.assignment.proofs.size_of.Tie as tie
 mul-wide : tie.Need-mul-wide
 mul-wide c = search needs
 
-element-copy-out-wide : tie.Need-element-copy-out-wide
-element-copy-out-wide c = search needs
+slice-read-wide : tie.Need-slice-read-wide
+slice-read-wide c = search needs
 
 wide-requires : tie.Need-wide-requires
 wide-requires c κs = search needs
@@ -17,10 +17,10 @@ sub-result : tie.Need-sub-result
 sub-result c = search needs
 
 returns : tie.Need-returns
-returns c = (noted-read _ _ (c .before .before .before .before .pre .1) _ (c .before .wide .ensures .0) (c .if2 .taken), c .before .before .before .before .pre .1)
+returns c = (noted-read _ _ (c .before .before .before .before .before .before .pre .1) _ (c .before .wide .ensures .0) (c .if2 .taken), c .before .before .before .before .before .before .pre .1)
 
 part-size-requires : tie.Need-part-size-requires
-part-size-requires c κs = c .before .before .before .before .pre .0
+part-size-requires c κs = c .before .before .before .before .before .before .pre .0
 
 add-sizes : tie.Need-add-sizes
 add-sizes c = omega (arith, c .part-size .ensures .1)
@@ -31,24 +31,27 @@ cast-sizes c = omega (arith, c .part-size .ensures .1)
 mul-sizes : tie.Need-mul-sizes
 mul-sizes c = search needs
 
-element-write-sizes : tie.Need-element-write-sizes
-element-write-sizes c = search needs
+slice-write-sizes : tie.Need-slice-write-sizes
+slice-write-sizes c = search needs
+
+same-length : tie.Need-same-length
+same-length c = search needs
 
 returns-2 : tie.Need-returns-2
-returns-2 c = (c .part-size .ensures .0, noted-more _ _ (c .before .before .before .before .before .pre .1) _ (c .part-size .ensures .0))
+returns-2 c = (c .part-size .ensures .0, noted-more _ _ (c .before .before .before .before .before .before .before .pre .1) _ (c .part-size .ensures .0))
 
 part-size-requires-2 : tie.Need-part-size-requires-2
-part-size-requires-2 c κs = c .before .pre .0
+part-size-requires-2 c κs = c .before .before .before .pre .0
 
 returns-3 : tie.Need-returns-3
-returns-3 c = (c .part-size2 .ensures .0, c .before .before .pre .1)
+returns-3 c = (c .part-size2 .ensures .0, c .before .before .before .before .pre .1)
 
 pub size-of-spec : {M : Type 1} → statement M
 size-of-spec =
     tie.close
     (tie.spec
     mul-wide
-    element-copy-out-wide
+    slice-read-wide
     wide-requires
     sub-result
     returns
@@ -56,7 +59,8 @@ size-of-spec =
     add-sizes
     cast-sizes
     mul-sizes
-    element-write-sizes
+    slice-write-sizes
+    same-length
     returns-2
     part-size-requires-2
     returns-3)

@@ -16,21 +16,21 @@ abbrev μ-loop : tie.MeasureT-loop
 loop-holds : tie.Need-loop-holds Inv-loop μ-loop
 loop-holds c = going-start
 
-past-requires : tie.Need-past-requires Inv-loop μ-loop
-past-requires c κs = search needs
+line-end-requires : tie.Need-line-end-requires Inv-loop μ-loop
+line-end-requires c κs = search needs
 
 sub-read-line : tie.Need-sub-read-line Inv-loop μ-loop
 sub-read-line c = search needs
 
 part-read-line-start : tie.Need-part-read-line-start Inv-loop μ-loop
-part-read-line-start c = omega (arith, c .past .ensures)
+part-read-line-start c = omega (arith, c .line-end .ensures)
 
 part-read-line-end : tie.Need-part-read-line-end Inv-loop μ-loop
-part-read-line-end c = let l = c .before .loop in line-ends (l .inv) (c .past .ensures)
+part-read-line-end c = let l = c .before .loop in line-ends (l .inv) (c .line-end .ensures)
 
 read-line-requires : tie.Need-read-line-requires Inv-loop μ-loop
 read-line-requires c κs = let r = c .before .before .before .before in
-    going-able (r .loop .inv) (c .before .before .before .past .ensures) (r .before .before .pre)
+    going-able (r .loop .inv) (c .before .before .before .line-end .ensures) (r .before .before .pre)
 
 enum-known-t : tie.Need-enum-known-t Inv-loop μ-loop
 enum-known-t c = search needs
@@ -48,7 +48,7 @@ same-length-2 c = let r = c .before .before .before .before .before in let l = r
 
 returns : tie.Need-returns Inv-loop μ-loop
 returns c = let r = c .before .before .before .before .before in let t = r .before .before .before .before in let l = t .before .loop in
-    going-refused (l .inv) (t .past .ensures) (r .read-line .ensures) (c .before .k .given .1)
+    going-refused (l .inv) (t .line-end .ensures) (r .read-line .ensures) (c .before .k .given .1)
 
 close-requires : tie.Need-close-requires Inv-loop μ-loop
 close-requires c κs = search needs
@@ -64,7 +64,7 @@ same-length-4 c = let r = c .before .before .before .before .before .before .bef
 returns-2 : tie.Need-returns-2 Inv-loop μ-loop
 returns-2 c = let r = c .before .before .before .before .before .before .before in let q = r .before .before .before .before in
     let l = q .before .loop in
-    going-last (l .inv) (q .past .ensures) (r .read-line .ensures) (c .before .before .before .t .given .1) (c .before .if1 .taken) (c .close .ensures)
+    going-last (l .inv) (q .line-end .ensures) (r .read-line .ensures) (c .before .before .before .t .given .1) (c .before .if1 .taken) (c .close .ensures)
 
 add-at : tie.Need-add-at Inv-loop μ-loop
 add-at c = omega (arith, c .if1 .left, c .before .before .before .before .before .before .before .before .before .before .before .before .before .good)
@@ -74,11 +74,11 @@ add-n c = let s = c .before .before .before .before .before .before .before .bef
     omega (arith, s .loop .inv .count, s .loop .inv .within, s .before .before .pre)
 
 loop-less : tie.Need-loop-less Inv-loop μ-loop
-loop-less c = omega (arith, c .if1 .left, c .before .before .before .before .before .before .before .before .before .before .past .ensures)
+loop-less c = omega (arith, c .if1 .left, c .before .before .before .before .before .before .before .before .before .before .line-end .ensures)
 
 loop-again : tie.Need-loop-again Inv-loop μ-loop
 loop-again c = let r = c .before .before .before .before .before .before in let q = r .before .before .before .before in let l = q .before .loop in
-    going-next (l .inv) (q .past .ensures) (r .read-line .ensures) (c .before .before .t .given .1) (c .if1 .left)
+    going-next (l .inv) (q .line-end .ensures) (r .read-line .ensures) (c .before .before .t .given .1) (c .if1 .left)
 
 pub read-lines-spec : {M : Type 1} → statement M
 read-lines-spec =
@@ -87,7 +87,7 @@ read-lines-spec =
     Inv-loop
     μ-loop
     loop-holds
-    past-requires
+    line-end-requires
     sub-read-line
     part-read-line-start
     part-read-line-end

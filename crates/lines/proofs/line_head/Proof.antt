@@ -15,17 +15,20 @@ shared-slice-read-b c = search needs
 returns-2 : tie.Need-returns-2
 returns-2 c = head-comment _ (c .before .before .before .past .ensures) (c .before .before .if1 .left) (c .if2 .taken)
 
-past-requires-2 : tie.Need-past-requires-2
-past-requires-2 c κs = search needs
+add-word-ends : tie.Need-add-word-ends
+add-word-ends c = search needs
 
-add-if3 : tie.Need-add-if3
-add-if3 c = search needs
+word-ends-requires : tie.Need-word-ends-requires
+word-ends-requires c κs = search needs
+
+add-t10 : tie.Need-add-t10
+add-t10 c = search needs
 
 returns-3 : tie.Need-returns-3
-returns-3 c = head-one _ (c .before .before .before .before .before .past .ensures) (c .before .before .before .before .if1 .left) (c .before .before .if2 .left) (c .before .past2 .ensures) (c .if3 .taken)
+returns-3 c = head-one _ (c .before .before .before .before .before .past .ensures) (c .before .before .before .before .if1 .left) (c .before .before .if2 .left) (c .before .word-ends .ensures) (c .if3 .taken)
 
 returns-4 : tie.Need-returns-4
-returns-4 c = head-more _ (c .before .before .before .before .before .past .ensures) (c .before .before .before .before .if1 .left) (c .before .before .if2 .left) (c .before .past2 .ensures) (c .if3 .left)
+returns-4 c = head-more _ (c .before .before .before .before .before .past .ensures) (c .before .before .before .before .if1 .left) (c .before .before .if2 .left) (c .before .word-ends .ensures) (c .if3 .left)
 
 pub line-head-spec : {M : Type 1} → statement M
 line-head-spec =
@@ -35,7 +38,8 @@ line-head-spec =
     returns
     shared-slice-read-b
     returns-2
-    past-requires-2
-    add-if3
+    add-word-ends
+    word-ends-requires
+    add-t10
     returns-3
     returns-4)

@@ -20,11 +20,11 @@ sub-left c = search needs
 loop-holds : tie.Need-loop-holds Inv-loop μ-loop
 loop-holds c = left-start _ _ (c .if1 .left)
 
-past-requires : tie.Need-past-requires Inv-loop μ-loop
-past-requires c κs = search needs
+line-end-requires : tie.Need-line-end-requires Inv-loop μ-loop
+line-end-requires c κs = search needs
 
 returns-2 : tie.Need-returns-2 Inv-loop μ-loop
-returns-2 c = left-none _ _ (c .before .before .before .loop .at) (c .before .before .before .loop .left) (c .before .before .before .loop .inv) (c .before .past .ensures) (c .before .before .loop-test .taken) (c .if2 .taken)
+returns-2 c = left-none _ _ (c .before .before .before .loop .at) (c .before .before .before .loop .left) (c .before .before .before .loop .inv) (c .before .line-end .ensures) (c .before .before .loop-test .taken) (c .if2 .taken)
 
 add-at : tie.Need-add-at Inv-loop μ-loop
 add-at c = omega (arith, c .if2 .left, c .before .before .before .before .before .before .good)
@@ -36,7 +36,7 @@ loop-less : tie.Need-loop-less Inv-loop μ-loop
 loop-less c = search needs
 
 loop-again : tie.Need-loop-again Inv-loop μ-loop
-loop-again c = left-next _ _ (c .before .before .before .loop .at) (c .before .before .before .loop .left) (c .before .before .before .loop .inv) (c .before .past .ensures) (c .before .before .loop-test .taken) (c .if2 .left)
+loop-again c = left-next _ _ (c .before .before .before .loop .at) (c .before .before .before .loop .left) (c .before .before .before .loop .inv) (c .before .line-end .ensures) (c .before .before .loop-test .taken) (c .if2 .left)
 
 returns-3 : tie.Need-returns-3 Inv-loop μ-loop
 returns-3 c = left-found _ _ (c .before .loop .at) (c .before .loop .left) (c .before .loop .inv) (c .loop-test .left)
@@ -50,7 +50,7 @@ line-start-spec =
     returns
     sub-left
     loop-holds
-    past-requires
+    line-end-requires
     returns-2
     add-at
     sub-left-2

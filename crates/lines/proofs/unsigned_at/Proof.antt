@@ -3,11 +3,10 @@ use native.Mathlib.Omega.{arith}
 use mathlib.Core.Path.{sym, _∙_}
 use Prim.Native.Nat.{_-_}
 use lib.ListN.{length}
+use borrow.Author.Tests.{not-false}
+use Rattle.lines.proofs.Numbers.{digit-from, digit-below}
+use Rattle.lines.proofs.Walks.{Walked, walk-first, walk-on, walk-blank, walk-past, tells-nothing}
 use borrow.Author.Needs.{needs}
-use borrow.Author.Tests.{eqb-true, not-true, not-false}
-use Rattle.lines.proofs.Numbers.{digit-from}
-use Rattle.lines.proofs.Runs.{run-past}
-use Rattle.lines.proofs.Walks.{Walked, walk-first, walk-on, walk-ends, zero-ends, tells-nothing}
 use Rattle.lines.proofs.unsigned_at.Statement.{statement}
 use Rattle.lines.proofs.unsigned_at.Tie as tie
 
@@ -23,53 +22,56 @@ returns c = tells-nothing _ _
 shared-slice-read-first : tie.Need-shared-slice-read-first Inv-loop μ-loop
 shared-slice-read-first c = search needs
 
-add-word-ends : tie.Need-add-word-ends Inv-loop μ-loop
-add-word-ends c = search needs
-
-word-ends-requires : tie.Need-word-ends-requires Inv-loop μ-loop
-word-ends-requires c κs = search needs
-
-add-t13 : tie.Need-add-t13 Inv-loop μ-loop
-add-t13 c = search needs
+is-digit-requires : tie.Need-is-digit-requires Inv-loop μ-loop
+is-digit-requires c κs = search needs
 
 returns-2 : tie.Need-returns-2 Inv-loop μ-loop
-returns-2 c = zero-ends _ _ (c .before .before .before .before .if1 .left) (c .before .before .if2 .taken) (eqb-true _ 0 (sym (c .before .word-ends .ensures) ∙ c .if3 .taken))
+returns-2 c = tells-nothing _ _
 
-returns-3 : tie.Need-returns-3 Inv-loop μ-loop
-returns-3 c = tells-nothing _ _
+sub-v : tie.Need-sub-v Inv-loop μ-loop
+sub-v c = digit-from _ (sym (c .before .is-digit .ensures) ∙ not-false _ (c .if2 .left))
 
-is-a-requires : tie.Need-is-a-requires Inv-loop μ-loop
-is-a-requires c κs = search needs
-
-returns-4 : tie.Need-returns-4 Inv-loop μ-loop
-returns-4 c = tells-nothing _ _
-
-with-digit-requires : tie.Need-with-digit-requires Inv-loop μ-loop
-with-digit-requires c κs = (omega arith, digit-from _ (sym (c .before .is-a .ensures) ∙ not-false _ (c .if4 .left)))
+cast-v : tie.Need-cast-v Inv-loop μ-loop
+cast-v c = let d = digit-below _ (sym (c .before .is-digit .ensures) ∙ not-false _ (c .if2 .left)) in search needs
 
 add-i : tie.Need-add-i Inv-loop μ-loop
 add-i c = search needs
 
 loop-holds : tie.Need-loop-holds Inv-loop μ-loop
-loop-holds c = walk-first _ _ (c .before .before .before .before .before .if1 .left) (c .before .before .before .if2 .left) (sym (c .before .before .is-a .ensures) ∙ not-false _ (c .before .if4 .left)) (c .with-digit .ensures)
+loop-holds c = walk-first _ _ (c .before .before .before .if1 .left) (sym (c .before .is-digit .ensures) ∙ not-false _ (c .if2 .left))
 
 shared-slice-read-b : tie.Need-shared-slice-read-b Inv-loop μ-loop
 shared-slice-read-b c = search needs
 
-is-a-requires-2 : tie.Need-is-a-requires-2 Inv-loop μ-loop
-is-a-requires-2 c κs = search needs
+is-digit-requires-2 : tie.Need-is-digit-requires-2 Inv-loop μ-loop
+is-digit-requires-2 c κs = search needs
 
-word-ends-requires-2 : tie.Need-word-ends-requires-2 Inv-loop μ-loop
-word-ends-requires-2 c κs = search needs
+is-a-requires : tie.Need-is-a-requires Inv-loop μ-loop
+is-a-requires c κs = search needs
+
+returns-3 : tie.Need-returns-3 Inv-loop μ-loop
+returns-3 c = walk-blank _ _ (c .before .before .before .before .before .before .loop .inv) (c .before .before .before .before .before .loop-test .taken) (sym (c .before .is-a .ensures) ∙ c .if4 .taken)
+
+returns-4 : tie.Need-returns-4 Inv-loop μ-loop
+returns-4 c = tells-nothing _ _
+
+grows-requires : tie.Need-grows-requires Inv-loop μ-loop
+grows-requires c κs = search needs
 
 returns-5 : tie.Need-returns-5 Inv-loop μ-loop
-returns-5 c = walk-ends _ _ (c .before .before .before .before .before .before .loop .inv) (eqb-true _ 0 (sym (c .before .word-ends2 .ensures) ∙ c .if6 .taken))
+returns-5 c = tells-nothing _ _
 
-returns-6 : tie.Need-returns-6 Inv-loop μ-loop
-returns-6 c = tells-nothing _ _
+mul-v : tie.Need-mul-v Inv-loop μ-loop
+mul-v c = let g = c .before .grows .ensures (not-false _ (c .if5 .left)) in omega arith
 
-with-digit-requires-2 : tie.Need-with-digit-requires-2 Inv-loop μ-loop
-with-digit-requires-2 c κs = (c .before .before .before .before .loop .inv .capped, digit-from _ (sym (c .before .is-a2 .ensures) ∙ not-false _ (c .if5 .left)))
+sub-v-2 : tie.Need-sub-v-2 Inv-loop μ-loop
+sub-v-2 c = digit-from _ (sym (c .before .before .before .is-digit2 .ensures) ∙ not-false _ (c .before .before .if3 .left))
+
+cast-v-2 : tie.Need-cast-v-2 Inv-loop μ-loop
+cast-v-2 c = let d = digit-below _ (sym (c .before .before .before .is-digit2 .ensures) ∙ not-false _ (c .before .before .if3 .left)) in search needs
+
+add-v : tie.Need-add-v Inv-loop μ-loop
+add-v c = let g = walk-on _ _ (c .before .before .before .before .before .before .loop .inv) (c .before .before .before .before .before .loop-test .taken) (sym (c .before .before .before .is-digit2 .ensures) ∙ not-false _ (c .before .before .if3 .left)) (c .before .grows .ensures (not-false _ (c .if5 .left))) .small in omega arith
 
 add-i-2 : tie.Need-add-i-2 Inv-loop μ-loop
 add-i-2 c = search needs
@@ -78,10 +80,10 @@ loop-less : tie.Need-loop-less Inv-loop μ-loop
 loop-less c = search needs
 
 loop-again : tie.Need-loop-again Inv-loop μ-loop
-loop-again c = walk-on _ _ (c .before .before .before .before .before .loop .inv) (c .before .before .before .before .loop-test .taken) (sym (c .before .before .is-a2 .ensures) ∙ not-false _ (c .before .if5 .left)) (c .with-digit2 .ensures)
+loop-again c = walk-on _ _ (c .before .before .before .before .before .before .loop .inv) (c .before .before .before .before .before .loop-test .taken) (sym (c .before .before .before .is-digit2 .ensures) ∙ not-false _ (c .before .before .if3 .left)) (c .before .grows .ensures (not-false _ (c .if5 .left)))
 
-returns-7 : tie.Need-returns-7 Inv-loop μ-loop
-returns-7 c = walk-ends _ _ (c .before .loop .inv) (run-past _ _ _ (c .loop-test .left))
+returns-6 : tie.Need-returns-6 Inv-loop μ-loop
+returns-6 c = walk-past _ _ (c .before .loop .inv) (c .loop-test .left)
 
 pub unsigned-at-spec : {M : Type 1} → statement M
 unsigned-at-spec =
@@ -91,23 +93,24 @@ unsigned-at-spec =
     μ-loop
     returns
     shared-slice-read-first
-    add-word-ends
-    word-ends-requires
-    add-t13
+    is-digit-requires
     returns-2
-    returns-3
-    is-a-requires
-    returns-4
-    with-digit-requires
+    sub-v
+    cast-v
     add-i
     loop-holds
     shared-slice-read-b
-    is-a-requires-2
-    word-ends-requires-2
+    is-digit-requires-2
+    is-a-requires
+    returns-3
+    returns-4
+    grows-requires
     returns-5
-    returns-6
-    with-digit-requires-2
+    mul-v
+    sub-v-2
+    cast-v-2
+    add-v
     add-i-2
     loop-less
     loop-again
-    returns-7)
+    returns-6)

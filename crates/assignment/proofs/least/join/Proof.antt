@@ -1,6 +1,6 @@
-use mathlib.Core.Path.{_≡_, refl}
+use mathlib.Core.Path.{_≡_, refl, _∙_}
 use native.Mathlib.Omega.{arith}
-use Prim.Native.Nat.{_-_}
+use Prim.Native.Nat.{_-_, _≤_}
 use lib.ListN.{length}
 use Rattle.cells.specs.Cells.{listAt}
 use Rattle.assignment.specs.Held.{listed, joined, Held}
@@ -11,31 +11,37 @@ use Rattle.assignment.proofs.least.join.Statement.{statement}
 use Rattle.assignment.proofs.least.join.Tie as tie
 
 abbrev Inv-loop : tie.InvT-loop
-Inv-loop seen₀ held₀ n map a k₀ i₀ seen held k i = Held seen held k × (joined (listed held k) (listAt map i) ≡ joined (listed held₀ n) (listAt map a))
+Inv-loop seen₀ held₀ n map a k₀ i₀ seen held k i = (k ≤ 8194) × (length seen ≡ length seen₀) × (length held ≡ length held₀) × (Held seen₀ held₀ n → Held seen held k × (joined (listed held k) (listAt map i) ≡ joined (listed held₀ n) (listAt map a)))
 
 abbrev μ-loop : tie.MeasureT-loop
 μ-loop seen₀ held₀ n map a k₀ i₀ seen held k i = length map - i
 
 loop-holds : tie.Need-loop-holds Inv-loop μ-loop
-loop-holds c = (c .pre, refl)
+loop-holds c = (c .before .before .pre, refl, refl, λ h. (h, refl))
 
 code-requires : tie.Need-code-requires Inv-loop μ-loop
 code-requires c κs = search needs
 
+same-length : tie.Need-same-length Inv-loop μ-loop
+same-length c = c .before .before .loop .inv .1
+
+same-length-2 : tie.Need-same-length-2 Inv-loop μ-loop
+same-length-2 c = c .before .before .loop .inv .2
+
 returns : tie.Need-returns Inv-loop μ-loop
-returns c = record { held = c .before .before .loop .inv .0; codes = join-stop _ _ _ _ (c .before .code .ensures .0) (c .before .before .loop .inv .1) (c .if1 .taken) }
+returns c = (c .before .before .loop .inv .0, λ h. let v = c .before .before .loop .inv .3 h in record { held = v .0; codes = join-stop _ _ _ _ (c .before .code .ensures .0) (v .1) (c .if1 .taken) })
 
 add-requires : tie.Need-add-requires Inv-loop μ-loop
 add-requires c κs = c .before .before .before .before .loop .inv .0
 
 add-i : tie.Need-add-i Inv-loop μ-loop
-add-i c = let h = inside _ _ (c .before .before .before .before .code .ensures .0) (c .before .before .before .if1 .left) in omega arith
+add-i c = let h = inside _ _ (c .before .before .before .before .before .before .before .before .code .ensures .0) (c .before .before .before .before .before .before .before .if1 .left) in omega arith
 
 loop-less : tie.Need-loop-less Inv-loop μ-loop
-loop-less c = let h = inside _ _ (c .before .before .before .before .code .ensures .0) (c .before .before .before .if1 .left) in omega arith
+loop-less c = let h = inside _ _ (c .before .before .before .before .before .before .before .before .code .ensures .0) (c .before .before .before .before .before .before .before .if1 .left) in omega arith
 
 loop-again : tie.Need-loop-again Inv-loop μ-loop
-loop-again c = (c .add .ensures .held, join-turn _ _ _ _ (c .before .before .before .before .code .ensures .0) (c .before .before .before .before .before .loop .inv .1) (c .before .before .before .if1 .left) (c .add .ensures .codes))
+loop-again c = (c .before .before .before .before .add .ensures .0, c .before .before .before .before .add .kept .0 ∙ c .before .before .before .before .before .before .before .before .before .loop .inv .1, omega (arith, c .before .before .before .before .add .kept .1, c .before .before .before .before .before .before .before .before .before .loop .inv .2), λ h. let v = c .before .before .before .before .before .before .before .before .before .loop .inv .3 h in let a = c .before .before .before .before .add .ensures .1 (v .0) in (a .held, join-turn _ _ _ _ (c .before .before .before .before .before .before .before .before .code .ensures .0) (v .1) (c .before .before .before .before .before .before .before .if1 .left) (a .codes)))
 
 pub join-spec : {M : Type 1} → statement M
 join-spec =
@@ -45,6 +51,8 @@ join-spec =
     μ-loop
     loop-holds
     code-requires
+    same-length
+    same-length-2
     returns
     add-requires
     add-i

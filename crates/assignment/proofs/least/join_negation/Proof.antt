@@ -13,12 +13,26 @@ universal-requires c κs = search needs
 add-requires : tie.Need-add-requires
 add-requires c κs = search needs
 
+same-length : tie.Need-same-length
+same-length c = search needs
+
+same-length-2 : tie.Need-same-length-2
+same-length-2 c = search needs
+
 returns : tie.Need-returns
-returns c = record { held = c .add .ensures .held; codes = c .add .ensures .codes ∙ negation-yes _ _ _ (sym (c .before .before .before .before .universal .ensures) ∙ c .before .before .before .if1 .taken) (c .before .before .before .before .before .negated .ensures) }
+returns c = (c .before .before .before .before .add .ensures .0, λ h. let a = c .before .before .before .before .add .ensures .1 h in record { held = a .held; codes = a .codes ∙ negation-yes _ _ _ (sym (c .before .before .before .before .before .before .before .before .universal .ensures) ∙ c .before .before .before .before .before .before .before .if1 .taken) (c .before .before .before .before .before .before .before .before .before .negated .ensures) })
 
 returns-2 : tie.Need-returns-2
-returns-2 c = record { held = c .before .before .before .pre .0; codes = negation-no _ _ _ (sym (c .before .universal .ensures) ∙ c .if1 .left) }
+returns-2 c = (c .before .before .before .before .before .pre .0, λ h. record { held = h; codes = negation-no _ _ _ (sym (c .before .universal .ensures) ∙ c .if1 .left) })
 
 pub join-negation-spec : {M : Type 1} → statement M
 join-negation-spec =
-    tie.close (tie.spec negated-requires universal-requires add-requires returns returns-2)
+    tie.close
+    (tie.spec
+    negated-requires
+    universal-requires
+    add-requires
+    same-length
+    same-length-2
+    returns
+    returns-2)

@@ -15,11 +15,14 @@ enum-known-reason-2 c = search needs
 parents-broken-requires : tie.Need-parents-broken-requires
 parents-broken-requires c κs = search needs
 
+same-length : tie.Need-same-length
+same-length c = search needs
+
 returns : tie.Need-returns
-returns c = expansion-judged _ _ _ (c .before .before .before .reason .given .1) (c .expansion-broken .ensures)
+returns c = λ h. expansion-judged _ _ _ (c .before .before .before .before .before .before .reason .given .1) (c .before .before .expansion-broken .ensures h)
 
 returns-2 : tie.Need-returns-2
-returns-2 c = resolution-judged _ _ _ (c .before .before .before .reason2 .given .1) (c .parents-broken .ensures)
+returns-2 c = λ h. resolution-judged _ _ _ (c .before .before .before .reason2 .given .1) (c .parents-broken .ensures)
 
 pub rule-broken-spec : {M : Type 1} → statement M
 rule-broken-spec =
@@ -29,5 +32,6 @@ rule-broken-spec =
     expansion-broken-requires
     enum-known-reason-2
     parents-broken-requires
+    same-length
     returns
     returns-2)

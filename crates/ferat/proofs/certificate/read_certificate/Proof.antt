@@ -24,17 +24,17 @@ abbrev μ-loop : tie.MeasureT-loop
 loop-holds : tie.Need-loop-holds Inv-loop μ-loop
 loop-holds c = midway-start ferat-apt
 
-past-requires : tie.Need-past-requires Inv-loop μ-loop
-past-requires c κs = search needs
+line-end-requires : tie.Need-line-end-requires Inv-loop μ-loop
+line-end-requires c κs = search needs
 
 sub-certificate-line : tie.Need-sub-certificate-line Inv-loop μ-loop
 sub-certificate-line c = search needs
 
 part-certificate-line-start : tie.Need-part-certificate-line-start Inv-loop μ-loop
-part-certificate-line-start c = omega (arith, c .past .ensures)
+part-certificate-line-start c = omega (arith, c .line-end .ensures)
 
 part-certificate-line-end : tie.Need-part-certificate-line-end Inv-loop μ-loop
-part-certificate-line-end c = midway-ends ferat-apt (c .before .loop .inv) (c .past .ensures)
+part-certificate-line-end c = midway-ends ferat-apt (c .before .loop .inv) (c .line-end .ensures)
 
 certificate-line-requires : tie.Need-certificate-line-requires Inv-loop μ-loop
 certificate-line-requires c κs = search needs
@@ -64,7 +64,7 @@ same-length-4 c = let s = c .before .before .before .before .before .before .bef
 returns : tie.Need-returns Inv-loop μ-loop
 returns c = let s = c .before .before .before .before .before .before .before .before in
     let r = s .before .before .before .before .before .before .before .before .before .before in
-    midway-refused ferat-apt (r .before .loop .inv) (r .past .ensures) (r .before .before .before .pre) _ _ (s .certificate-line .ensures) _ (ap answerOf (c .before .before .k .given .1))
+    midway-refused ferat-apt (r .before .loop .inv) (r .line-end .ensures) (r .before .before .before .pre) _ _ (s .certificate-line .ensures) _ (ap answerOf (c .before .before .k .given .1))
 
 end-broken-requires : tie.Need-end-broken-requires Inv-loop μ-loop
 end-broken-requires c κs = search needs
@@ -91,27 +91,27 @@ same-length-8 c = let s = c .before .before .before .before .before .before .bef
 returns-2 : tie.Need-returns-2 Inv-loop μ-loop
 returns-2 c = let s = c .before .before .before .before .before in let r = s .before .before .before .before .before .before .before .before in
     let q = r .before .before .before .before .before .before .before .before .before .before in
-    midway-last ferat-apt (q .before .loop .inv) (q .past .ensures) (q .before .before .before .pre) _ _ (r .certificate-line .ensures) _ (ap answerOf (s .before .before .t .given .1)) (s .if1 .taken) (c .before .end-broken .result) (ended-is (c .before .end-broken .ensures)) (c .at-end .ensures)
+    midway-last ferat-apt (q .before .loop .inv) (q .line-end .ensures) (q .before .before .before .pre) _ _ (r .certificate-line .ensures) _ (ap answerOf (s .before .before .t .given .1)) (s .if1 .taken) (c .before .end-broken .result) (ended-is (c .before .end-broken .ensures)) (c .at-end .ensures)
 
 add-at : tie.Need-add-at Inv-loop μ-loop
 add-at c =
     let s = c .before .before .before .before .before .before .before .before .before .before .before .before .before .before .before .before .before .before in
-    midway-fits ferat-apt (s .before .loop .inv) (s .past .ensures) (s .before .before .before .pre) (c .if1 .left)
+    midway-fits ferat-apt (s .before .loop .inv) (s .line-end .ensures) (s .before .before .before .pre) (c .if1 .left)
 
 add-n : tie.Need-add-n Inv-loop μ-loop
 add-n c =
     let s = c .before .before .before .before .before .before .before .before .before .before .before .before .before .before .before .before .before .before in
-    midway-count ferat-apt (s .before .loop .inv) (s .past .ensures) (s .before .before .before .pre)
+    midway-count ferat-apt (s .before .loop .inv) (s .line-end .ensures) (s .before .before .before .pre)
 
 loop-less : tie.Need-loop-less Inv-loop μ-loop
 loop-less c =
     let s = c .before .before .before .before .before .before .before .before .before .before .before .before .before .before .before .before .before .before in
-    midway-less ferat-apt (s .before .loop .inv) (s .past .ensures) (c .if1 .left)
+    midway-less ferat-apt (s .before .loop .inv) (s .line-end .ensures) (c .if1 .left)
 
 loop-again : tie.Need-loop-again Inv-loop μ-loop
 loop-again c = let s = c .before .before .before .before .before .before .before .before in
     let r = s .before .before .before .before .before .before .before .before .before .before in let k = s .certificate-line .kept .1 .1 .1 .1 in
-    midway-next ferat-apt (r .before .loop .inv) (r .past .ensures) (r .before .before .before .pre) _ _ (s .certificate-line .ensures) _ (ap answerOf (c .before .before .t .given .1)) (c .if1 .left) (k .0, k .1 .0, k .1 .1 .0, k .1 .1 .1 .0)
+    midway-next ferat-apt (r .before .loop .inv) (r .line-end .ensures) (r .before .before .before .pre) _ _ (s .certificate-line .ensures) _ (ap answerOf (c .before .before .t .given .1)) (c .if1 .left) (k .0, k .1 .0, k .1 .1 .0, k .1 .1 .1 .0)
 
 pub read-certificate-spec : {M : Type 1} → statement M
 read-certificate-spec =
@@ -120,7 +120,7 @@ read-certificate-spec =
     Inv-loop
     μ-loop
     loop-holds
-    past-requires
+    line-end-requires
     sub-certificate-line
     part-certificate-line-start
     part-certificate-line-end

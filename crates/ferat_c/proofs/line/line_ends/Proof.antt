@@ -6,11 +6,11 @@ use Rattle.ferat_c.proofs.line.line_ends.Tie as tie
 line-start-requires : tie.Need-line-start-requires
 line-start-requires c κs = search needs
 
-past-requires : tie.Need-past-requires
-past-requires c κs = search needs
+line-end-requires : tie.Need-line-end-requires
+line-end-requires c κs = search needs
 
 returns : tie.Need-returns
-returns c = ends-are _ _ (c .before .before .line-start .ensures) (c .before .past .ensures)
+returns c = ends-are _ _ (c .before .before .line-start .ensures) (c .before .line-end .ensures)
 
 pub line-ends-spec : {M : Type 1} → statement M
-line-ends-spec = tie.close (tie.spec line-start-requires past-requires returns)
+line-ends-spec = tie.close (tie.spec line-start-requires line-end-requires returns)

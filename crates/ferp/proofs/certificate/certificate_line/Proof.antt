@@ -12,8 +12,8 @@ use Rattle.ferp.proofs.certificate.certificate_line.Tie as tie
 abbrev lent : tie.Start → Tables
 lent c = let a = c .args in six (a .prefix) (a .matrix) (a .map) (a .proof) (a .marks) (a .values)
 
-abbrev held : tie.Start → Work
-held c = let a = c .args in four (a .starts) (a .noted) (a .indexes) (a .seen)
+abbrev memory : tie.Start → Work
+memory c = let a = c .args in four (a .starts) (a .noted) (a .indexes) (a .seen)
 
 kind-of-requires : tie.Need-kind-of-requires
 kind-of-requires c κs = search needs
@@ -34,7 +34,7 @@ clause-line-requires : tie.Need-clause-line-requires
 clause-line-requires c κs = search needs
 
 returns : tie.Need-returns
-returns c = line-skipped ferpRules ferpCode (λ f s. means _ (lent (c .before .before .before .before .before)) f s (c .before .before .kind-of .ensures) (c .enum-told .given .1))
+returns c = line-skipped ferpRules ferpCode (λ f s. means _ (lent (c .before .before .before .before .before .before)) f s (c .before .before .kind-of .ensures) (c .enum-told .given .1))
 
 same-length : tie.Need-same-length
 same-length c = search needs
@@ -43,7 +43,7 @@ same-length-2 : tie.Need-same-length-2
 same-length-2 c = search needs
 
 returns-2 : tie.Need-returns-2
-returns-2 c = line-judged ferpRules ferpCode (judged sameForm _ _ _) (λ f s. means _ _ f s (c .before .before .before .before .before .before .before .before .before .kind-of .ensures) (c .before .before .before .before .before .before .before .e .given .1)) (c .before .before .mapping-line .ensures (lent (c .before .before .before .before .before .before .before .before .before .before .before .before)) (held (c .before .before .before .before .before .before .before .before .before .before .before .before)) .steps)
+returns-2 c = line-judged ferpRules ferpCode (judged sameForm _ _ _) (λ f s. means _ _ f s (c .before .before .before .before .before .before .before .before .before .kind-of .ensures) (c .before .before .before .before .before .before .before .e .given .1)) (c .before .before .mapping-line .ensures (lent (c .before .before .before .before .before .before .before .before .before .before .before .before .before)) (memory (c .before .before .before .before .before .before .before .before .before .before .before .before .before)) .steps)
 
 same-length-3 : tie.Need-same-length-3
 same-length-3 c = search needs
@@ -60,8 +60,11 @@ same-length-6 c = search needs
 same-length-7 : tie.Need-same-length-7
 same-length-7 c = search needs
 
+same-length-8 : tie.Need-same-length-8
+same-length-8 c = search needs
+
 returns-3 : tie.Need-returns-3
-returns-3 c = line-judged ferpRules ferpCode (judged derivationForm _ 0 _) (λ f s. means _ _ f s (c .before .before .before .before .before .before .before .before .before .before .before .before .before .before .before .kind-of .ensures) (c .before .before .before .before .before .before .before .before .before .before .before .before .before .enum-told2 .given .1)) (c .before .before .before .before .clause-line .ensures .steps)
+returns-3 c = line-judged ferpRules ferpCode (judged derivationForm _ 0 _) (λ f s. means _ _ f s (c .before .before .before .before .before .before .before .before .before .before .before .before .before .before .before .before .before .before .kind-of .ensures) (c .before .before .before .before .before .before .before .before .before .before .before .before .before .before .before .before .enum-told2 .given .1)) (c .before .before .before .before .before .before .clause-line .ensures .steps)
 
 pub certificate-line-spec : {M : Type 1} → statement M
 certificate-line-spec =
@@ -82,4 +85,5 @@ certificate-line-spec =
     same-length-5
     same-length-6
     same-length-7
+    same-length-8
     returns-3)

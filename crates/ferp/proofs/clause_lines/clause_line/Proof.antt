@@ -1,3 +1,4 @@
+use native.Mathlib.Omega.{arith}
 use mathlib.Core.Path.{sym, _∙_}
 use denote.Ref.{now}
 use Rattle.tables.specs.Tables.{six}
@@ -47,7 +48,7 @@ same-length-4 : tie.Need-same-length-4
 same-length-4 c = search needs
 
 returns-3 : tie.Need-returns-3
-returns-3 c = absurd (literals-ended _ _ (sym (c .before .before .before .before .before .before .before .before .before .before .before .before .before .before .derivation-at .ensures .measured) ∙ c .before .before .before .before .before .before .before .before .before .before .i .given .1) (c .before .before .before .store-line .ensures (in-buffer (now (c .before .before .before .before .before .before .before .before .before .before .before .before .before .before .before .before .before .before .args .line)) 0 (c .before .before .before .before .before .before .before .before .before .before .before .before .before .before .before .before .before .before .args .p) (six (c .before .before .before .before .before .before .before .before .before .before .before .before .before .before .before .before .before .before .args .prefix) (c .before .before .before .before .before .before .before .before .before .before .before .before .before .before .before .before .before .before .args .matrix) (c .before .before .before .before .before .before .before .before .before .before .before .before .before .before .before .before .before .before .args .map) (c .before .before .before .before .before .before .before .before .before .before .before .before .before .before .before .before .before .before .args .proof) (c .before .before .before .before .before .before .before .before .before .before .before .before .before .before .before .before .before .before .args .marks) (c .before .before .before .before .before .before .before .before .before .before .before .before .before .before .before .before .before .before .args .values)) (four (c .before .before .before .before .before .before .before .before .before .before .before .before .before .before .before .before .before .before .args .starts) (c .before .before .before .before .before .before .before .before .before .before .before .before .before .before .before .before .before .before .args .noted) (c .before .before .before .before .before .before .before .before .before .before .before .before .before .before .before .before .before .before .args .indexes) (c .before .before .before .before .before .before .before .before .before .before .before .before .before .before .before .before .before .before .args .seen)) (sym (c .before .before .before .before .before .before .before .before .before .before .before .before .before .before .derivation-at .ensures .measured) ∙ c .before .before .before .before .before .before .before .before .before .before .i .given .1) (c .before .before .before .before .before .before .before .limit-broken .ensures) (c .before .before .before .before .before .before .if1 .left) (now (c .before .before .before .before .before .before .before .before .before .before .before .before .before .before .before .before .before .before .args .buffer)) (c .before .before .before .before .before .before .before .before .before .before .before .before .before .before .derivation-at .ensures) (c .before .before .before .before .before .before .before .before .before .before .i .given .1)) .1) (c .enum-told3 .given .1))
+returns-3 c = absurd (literals-ended _ _ (sym (c .before .before .before .before .before .before .before .before .before .before .before .before .before .before .derivation-at .ensures .measured) ∙ c .before .before .before .before .before .before .before .before .before .before .i .given .1) (c .before .before .before .store-line .ensures (in-buffer (now (c .before .before .before .before .before .before .before .before .before .before .before .before .before .before .before .before .before .before .before .args .line)) 0 (c .before .before .before .before .before .before .before .before .before .before .before .before .before .before .before .before .before .before .before .args .p) (six (c .before .before .before .before .before .before .before .before .before .before .before .before .before .before .before .before .before .before .before .args .prefix) (c .before .before .before .before .before .before .before .before .before .before .before .before .before .before .before .before .before .before .before .args .matrix) (c .before .before .before .before .before .before .before .before .before .before .before .before .before .before .before .before .before .before .before .args .map) (c .before .before .before .before .before .before .before .before .before .before .before .before .before .before .before .before .before .before .before .args .proof) (c .before .before .before .before .before .before .before .before .before .before .before .before .before .before .before .before .before .before .before .args .marks) (c .before .before .before .before .before .before .before .before .before .before .before .before .before .before .before .before .before .before .before .args .values)) (four (c .before .before .before .before .before .before .before .before .before .before .before .before .before .before .before .before .before .before .before .args .starts) (c .before .before .before .before .before .before .before .before .before .before .before .before .before .before .before .before .before .before .before .args .noted) (c .before .before .before .before .before .before .before .before .before .before .before .before .before .before .before .before .before .before .before .args .indexes) (c .before .before .before .before .before .before .before .before .before .before .before .before .before .before .before .before .before .before .before .args .seen)) (sym (c .before .before .before .before .before .before .before .before .before .before .before .before .before .before .derivation-at .ensures .measured) ∙ c .before .before .before .before .before .before .before .before .before .before .i .given .1) (c .before .before .before .before .before .before .before .limit-broken .ensures) (c .before .before .before .before .before .before .if1 .left) (now (c .before .before .before .before .before .before .before .before .before .before .before .before .before .before .before .before .before .before .before .args .buffer)) (c .before .before .before .before .before .before .before .before .before .before .before .before .before .before .derivation-at .ensures) (c .before .before .before .before .before .before .before .before .before .before .i .given .1)) .1) (c .enum-told3 .given .1))
 
 derive-requires : tie.Need-derive-requires
 derive-requires c κs = search needs
@@ -61,8 +62,11 @@ same-length-6 c = search needs
 same-length-7 : tie.Need-same-length-7
 same-length-7 c = search needs
 
+same-length-8 : tie.Need-same-length-8
+same-length-8 c = search needs
+
 returns-4 : tie.Need-returns-4
-returns-4 c = clause-judged _ _ _ _ _ (sym (c .before .before .before .before .before .before .before .before .before .before .before .before .before .before .before .before .before .before .before .before .derivation-at .ensures .measured) ∙ c .before .before .before .before .before .before .before .before .before .before .before .before .before .before .before .before .i .given .1) (c .before .before .before .before .before .before .before .before .before .before .before .before .before .limit-broken .ensures) (c .before .before .before .before .before .before .before .before .before .before .before .before .if1 .left) _ (c .before .before .before .before .before .before .before .before .before .store-line .ensures (in-buffer (now (c .before .before .before .before .before .before .before .before .before .before .before .before .before .before .before .before .before .before .before .before .before .before .before .before .args .line)) 0 (c .before .before .before .before .before .before .before .before .before .before .before .before .before .before .before .before .before .before .before .before .before .before .before .before .args .p) (six (c .before .before .before .before .before .before .before .before .before .before .before .before .before .before .before .before .before .before .before .before .before .before .before .before .args .prefix) (c .before .before .before .before .before .before .before .before .before .before .before .before .before .before .before .before .before .before .before .before .before .before .before .before .args .matrix) (c .before .before .before .before .before .before .before .before .before .before .before .before .before .before .before .before .before .before .before .before .before .before .before .before .args .map) (c .before .before .before .before .before .before .before .before .before .before .before .before .before .before .before .before .before .before .before .before .before .before .before .before .args .proof) (c .before .before .before .before .before .before .before .before .before .before .before .before .before .before .before .before .before .before .before .before .before .before .before .before .args .marks) (c .before .before .before .before .before .before .before .before .before .before .before .before .before .before .before .before .before .before .before .before .before .before .before .before .args .values)) (four (c .before .before .before .before .before .before .before .before .before .before .before .before .before .before .before .before .before .before .before .before .before .before .before .before .args .starts) (c .before .before .before .before .before .before .before .before .before .before .before .before .before .before .before .before .before .before .before .before .before .before .before .before .args .noted) (c .before .before .before .before .before .before .before .before .before .before .before .before .before .before .before .before .before .before .before .before .before .before .before .before .args .indexes) (c .before .before .before .before .before .before .before .before .before .before .before .before .before .before .before .before .before .before .before .before .before .before .before .before .args .seen)) (sym (c .before .before .before .before .before .before .before .before .before .before .before .before .before .before .before .before .before .before .before .before .derivation-at .ensures .measured) ∙ c .before .before .before .before .before .before .before .before .before .before .before .before .before .before .before .before .i .given .1) (c .before .before .before .before .before .before .before .before .before .before .before .before .before .limit-broken .ensures) (c .before .before .before .before .before .before .before .before .before .before .before .before .if1 .left) (now (c .before .before .before .before .before .before .before .before .before .before .before .before .before .before .before .before .before .before .before .before .before .before .before .before .args .buffer)) (c .before .before .before .before .before .before .before .before .before .before .before .before .before .before .before .before .before .before .before .before .derivation-at .ensures) (c .before .before .before .before .before .before .before .before .before .before .before .before .before .before .before .before .i .given .1)) .0) (c .before .derive .ensures)
+returns-4 c = clause-judged _ _ _ _ _ (sym (c .before .before .before .before .before .before .before .before .before .before .before .before .before .before .before .before .before .before .before .before .before .before .before .derivation-at .ensures .measured) ∙ c .before .before .before .before .before .before .before .before .before .before .before .before .before .before .before .before .before .before .before .i .given .1) (c .before .before .before .before .before .before .before .before .before .before .before .before .before .before .before .before .limit-broken .ensures) (c .before .before .before .before .before .before .before .before .before .before .before .before .before .before .before .if1 .left) _ (c .before .before .before .before .before .before .before .before .before .before .before .before .store-line .ensures (in-buffer (now (c .before .before .before .before .before .before .before .before .before .before .before .before .before .before .before .before .before .before .before .before .before .before .before .before .before .before .before .before .args .line)) 0 (c .before .before .before .before .before .before .before .before .before .before .before .before .before .before .before .before .before .before .before .before .before .before .before .before .before .before .before .before .args .p) (six (c .before .before .before .before .before .before .before .before .before .before .before .before .before .before .before .before .before .before .before .before .before .before .before .before .before .before .before .before .args .prefix) (c .before .before .before .before .before .before .before .before .before .before .before .before .before .before .before .before .before .before .before .before .before .before .before .before .before .before .before .before .args .matrix) (c .before .before .before .before .before .before .before .before .before .before .before .before .before .before .before .before .before .before .before .before .before .before .before .before .before .before .before .before .args .map) (c .before .before .before .before .before .before .before .before .before .before .before .before .before .before .before .before .before .before .before .before .before .before .before .before .before .before .before .before .args .proof) (c .before .before .before .before .before .before .before .before .before .before .before .before .before .before .before .before .before .before .before .before .before .before .before .before .before .before .before .before .args .marks) (c .before .before .before .before .before .before .before .before .before .before .before .before .before .before .before .before .before .before .before .before .before .before .before .before .before .before .before .before .args .values)) (four (c .before .before .before .before .before .before .before .before .before .before .before .before .before .before .before .before .before .before .before .before .before .before .before .before .before .before .before .before .args .starts) (c .before .before .before .before .before .before .before .before .before .before .before .before .before .before .before .before .before .before .before .before .before .before .before .before .before .before .before .before .args .noted) (c .before .before .before .before .before .before .before .before .before .before .before .before .before .before .before .before .before .before .before .before .before .before .before .before .before .before .before .before .args .indexes) (c .before .before .before .before .before .before .before .before .before .before .before .before .before .before .before .before .before .before .before .before .before .before .before .before .before .before .before .before .args .seen)) (sym (c .before .before .before .before .before .before .before .before .before .before .before .before .before .before .before .before .before .before .before .before .before .before .before .derivation-at .ensures .measured) ∙ c .before .before .before .before .before .before .before .before .before .before .before .before .before .before .before .before .before .before .before .i .given .1) (c .before .before .before .before .before .before .before .before .before .before .before .before .before .before .before .before .limit-broken .ensures) (c .before .before .before .before .before .before .before .before .before .before .before .before .before .before .before .if1 .left) (now (c .before .before .before .before .before .before .before .before .before .before .before .before .before .before .before .before .before .before .before .before .before .before .before .before .before .before .before .before .args .buffer)) (c .before .before .before .before .before .before .before .before .before .before .before .before .before .before .before .before .before .before .before .before .before .before .before .derivation-at .ensures) (c .before .before .before .before .before .before .before .before .before .before .before .before .before .before .before .before .before .before .before .i .given .1)) .0) (c .before .before .before .derive .ensures (omega (arith, c .before .before .before .before .before .before .before .before .before .before .before .before .before .before .before .before .before .before .before .before .before .before .before .before .before .before .before .before .pre, c .before .before .before .before .before .before .before .before .before .before .before .before .before .before .before .before .before .before .before .before .before .before .before .derivation-at .kept)))
 
 pub clause-line-spec : {M : Type 1} → statement M
 clause-line-spec =
@@ -86,4 +90,5 @@ clause-line-spec =
     same-length-5
     same-length-6
     same-length-7
+    same-length-8
     returns-4)
