@@ -1,6 +1,6 @@
 #!/usr/bin/env python3
 """make.py FOLDER: pairs NAME.qdimacs and NAME.ferp for the benchmark, of
-four families in four sizes. Of several formulas of a family, the one whose
+five families in four sizes. Of several formulas of a family, the one whose
 certificate comes nearest to the size from below is taken. Needs `cadical`;
 all dice are seeded, so the same cadical makes the same files again."""
 import itertools
@@ -11,7 +11,7 @@ import sys
 sys.dont_write_bytecode = True
 HERE = os.path.dirname(os.path.abspath(__file__))
 sys.path.insert(0, os.path.join(HERE, "..", "tests", "outside"))
-from make_data import cadical, equality, expansion, mapping, pigeons, qdimacs, qparity, random_3sat
+from make_data import cadical, equality, expansion, mapping, pigeons, qdimacs, qparity, random_3sat, random_qbf
 from unfold import lines, unfold
 
 SIZES = {"1-16KB": 16384, "2-64KB": 65536, "3-400KB": 400000, "4-1MB": 1048576}
@@ -39,6 +39,13 @@ def pigeonhole_formulas():
             clauses = pigeons(p, holes) + [[-p[1, j]] for j in range(first_out, holes + 1)]
             random.Random(seed).shuffle(clauses)
             yield existential(len(p), clauses)
+
+
+def quantified_formulas():
+    """Random QBFs of four universals, expanded fully."""
+    for existentials in itertools.count(20, 5):
+        for seed in range(8):
+            yield random_qbf(seed, 4, existentials, 5 * existentials)
 
 
 def certificate(formula):
@@ -77,6 +84,7 @@ def main(folder):
         "equality": map(equality, range(3, 11)),
         "pigeonhole": pigeonhole_formulas(),
         "qparity": map(qparity, itertools.count(10, 2)),
+        "quantified": quantified_formulas(),
         "random": random_formulas(),
     }
     for family, formulas in families.items():
