@@ -24,7 +24,7 @@ use Rattle.derivations.specs.declared.Progress.{Progress}
 use Rattle.derivations.specs.declared.Step.{Step}
 use Rattle.derivations.specs.declared.Step.the-variants.{Next, Refuse}
 
--- THE WORKING MEMORY of a check: where the matrix clauses start, which copies are mapped, which clause has which index, and the marks for resolvents
+-- THE WORKING MEMORY of a check: where the matrix clauses start, which copies are mapped, which clause has which index, and the marks that resolvents and expansions are tested by
 pub record Work : Type 0 where
   pub starts : List ℕ
   pub noted : List ℕ
