@@ -1,4 +1,5 @@
 // Rule 8: existentials, and an annotation for them. A refusal is 8, 2 at a token that is no literal, 0 for none.
+#![tactic(auto)]
 ghost use Rattle.std.specs.Prelude.{◌≡◌, true};
 ghost use Rattle.lines.specs.Lists.{all};
 ghost use Rattle.prefix.specs.Prefix.{entry};
@@ -10,7 +11,7 @@ use mapped::numbers::{Item, item_at};
 use mapped::{COPIES, Noted, note};
 
 // What a walk over the existentials leads to: the narrowest of them, 0 if there is none; or a refusal.
-#[derive(Drop)]
+#[derive(Clone, Copy)]
 enum Narrowest {
     Of(usize),
     Refuse(u32),

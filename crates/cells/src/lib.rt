@@ -1,4 +1,5 @@
 // The places of a table of 32-bit signed numbers, read and written as natural numbers.
+#![tactic(auto)]
 ghost use Rattle.std.specs.Prelude.{◌≡◌, ◌%◌, ◌<◌, max, set, pos};
 ghost use Rattle.cells.specs.Cells.{cell_at, code_at};
 

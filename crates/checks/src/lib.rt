@@ -1,4 +1,5 @@
 // A list of checks of any kinds, one after the other in the same six tables.
+#![tactic(auto)]
 ghost use Rattle.std.specs.Prelude.{◌≡◌, ◌+◌, ◌≤◌, ◌<◌, ◌^◌, length, get_or, set};
 ghost use Rattle.std.proofs.lemmas.List.Edits.{sets};
 ghost use Rattle.tables.specs.Tables.{six};
@@ -59,7 +60,7 @@ fn put_numbers(out: &mut [u32], at: usize, numbers: &[u32])
 }
 
 // The report of a check that was run; none where no kind was named.
-#[derive(Drop)]
+#[derive(Clone, Copy)]
 enum Ran {
     With(Report),
     Not,

@@ -1,4 +1,5 @@
 // The clauses of a certificate in the proof and marks tables. This crate alone knows how they stand there; a clause is named by its place.
+#![tactic(auto)]
 ghost use Rattle.std.specs.Prelude.{◌≡◌, [], ◌+◌, ◌<◌};
 ghost use Rattle.rules.specs.Basics.{is_in};
 ghost use Rattle.lists.specs.Stores.{ending_at};
@@ -10,14 +11,14 @@ use cells::{cell, code, put, wide};
 use lists::Ending;
 
 // The places of the proof table in use, and the number of clauses stored.
-#[derive(Drop)]
+#[derive(Clone, Copy)]
 pub struct Store {
     pub used: usize,
     pub count: usize,
 }
 
 // Where in a clause one reads.
-#[derive(Drop)]
+#[derive(Clone, Copy)]
 pub struct Cursor {
     pub at: usize,
 }

@@ -1,4 +1,5 @@
 // Deletions: the earliest standing clause of the same set. The deleted clause's literals are trail[0..n), and falses marks them: a deletion
+#![tactic(auto)]
 // cuts the trail to 0 first, since what followed from the standing clauses may follow no more.
 ghost use Rattle.std.specs.Prelude.{◌≡◌, ◌+◌, ◌≤◌, ◌<◌, length, false, ◌&&◌};
 ghost use Rattle.lines.specs.Lists.{all};

@@ -1,4 +1,5 @@
 // What is carried from line to line of a FERP certificate, and the judging of its clause lines once they are stored.
+#![tactic(auto)]
 mod judging;
 mod limits;
 
@@ -11,7 +12,7 @@ use reading::Counts;
 
 // What is carried from line to line, beside the tables: what was read of the formula, the copies mapped, the clauses stored, and the lines
 // accepted.
-#[derive(Drop)]
+#[derive(Clone, Copy)]
 pub struct Progress {
     pub formula: Reading,
     pub mapped: Mapped,
@@ -20,14 +21,14 @@ pub struct Progress {
 }
 
 // What a line leads to: the next progress, or a refusal's number.
-#[derive(Drop)]
+#[derive(Clone, Copy)]
 pub enum Step {
     Next(Progress),
     Refuse(u32),
 }
 
 // What a clause is said to follow from: matrix clause n, of which it is an expansion, or the clauses with two indexes, its parents.
-#[derive(Drop)]
+#[derive(Clone, Copy)]
 pub enum Reason {
     Clause(u32),
     Parents(u32, u32),

@@ -1,4 +1,5 @@
 // Whether an `e` line is an expansion of a matrix clause, over the tables. Two arrays are lent for it: `seen` without a mark, and left so;
+#![tactic(auto)]
 // `held` for a list, whatever it holds. How many literals the line has, `size`, decides the way and not the answer.
 ghost use Rattle.std.specs.Prelude.{◌≡◌, ◌≤◌, length};
 ghost use Rattle.copies.specs.Marks.{Unmarked};

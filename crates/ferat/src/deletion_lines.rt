@@ -15,7 +15,7 @@ use progress::{Progress, Step};
 use trail::{Falses, Trail};
 
 // The literals of a line are listed, with the trail's length; or a token is no literal.
-#[derive(Drop)]
+#[derive(Clone, Copy)]
 pub enum LineList {
     All(usize),
     Bad,

@@ -6,7 +6,7 @@ ghost use Rattle.ferat.specs.Kinds.{letter_kind, kind_of};
 use lines::Head;
 
 // Skipped; a mapping, hints, expansion or deletion line, with the place after its letter; an addition line, or one of no form.
-#[derive(Drop)]
+#[derive(Clone, Copy)]
 pub enum Kind {
     Skip,
     Mapping(usize),

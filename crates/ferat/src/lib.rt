@@ -1,4 +1,5 @@
 // The check of a FERAT certificate: its text, line by line, and both files.
+#![tactic(auto)]
 mod certificate;
 mod checking;
 mod clause_lines;

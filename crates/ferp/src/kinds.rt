@@ -6,7 +6,7 @@ ghost use Rattle.ferp.specs.Kinds.{letter_kind, kind_of};
 use lines::Head;
 
 // Skipped; a mapping line, with the place after its letter; a clause line, or one of no form.
-#[derive(Drop)]
+#[derive(Clone, Copy)]
 pub enum Kind {
     Skip,
     Mapping(usize),

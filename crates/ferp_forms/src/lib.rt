@@ -1,4 +1,5 @@
 // The text of a FERP clause line, `index literals 0 n 0` or `index literals 0 a b 0`: a first pass that writes nothing.
+#![tactic(auto)]
 ghost use Rattle.std.specs.Prelude.{◌≡◌};
 ghost use Rattle.ferp_forms.specs.Forms.{closed_at, reason_at, Derives};
 
@@ -6,7 +7,7 @@ use derivations::Reason;
 use lists::{Listed, Natural};
 
 // What the numbers after a clause say that it follows from; nothing else may stand there.
-#[derive(Drop)]
+#[derive(Clone, Copy)]
 pub enum Given {
     By(Reason),
     Bad,
@@ -49,7 +50,7 @@ pub fn reason_at(line: &[u8], at: usize) -> Given
 
 // A clause line: its index, where its literals start, how many there are, the largest copy, and what it is said to follow from; numbers at
 // most the cap.
-#[derive(Drop)]
+#[derive(Clone, Copy)]
 pub enum Derivation {
     Good(u32, usize, usize, u32, Reason),
     Bad,

@@ -1,4 +1,5 @@
 // The formula read into its two tables.
+#![tactic(auto)]
 ghost use Rattle.std.specs.Prelude.{◌≡◌, ◌+◌, ◌≤◌, length};
 ghost use Rattle.lines.specs.Scan.{head_of};
 ghost use Rattle.formula.specs.Kinds.{letter_kind, kind_of};
@@ -16,7 +17,7 @@ const HIGHEST: u32 = 4096;
 const MOST: u32 = 8192;
 
 // What is read so far: V, C, how many variables are bound, how many clauses there are and how many places of the matrix table they use.
-#[derive(Drop)]
+#[derive(Clone, Copy)]
 pub struct Reading {
     pub v: u32,
     pub c: u32,
@@ -26,21 +27,21 @@ pub struct Reading {
 }
 
 // Before and after the `p` line.
-#[derive(Drop)]
+#[derive(Clone, Copy)]
 enum State {
     Start,
     Within(Reading),
 }
 
 // A line is accepted, or refused with this number.
-#[derive(Drop)]
+#[derive(Clone, Copy)]
 enum Outcome {
     Next(State),
     Refuse(u32),
 }
 
 // How many variables are bound after a prefix line, or that one of them was bound before, or that a token is no literal.
-#[derive(Drop)]
+#[derive(Clone, Copy)]
 enum Marked {
     Bad,
     Twice,
@@ -180,7 +181,7 @@ fn problem_line(line: &[u8], at: usize, prefix: &mut [i32]) -> Outcome
 }
 
 // What a line is, by its first word.
-#[derive(Drop)]
+#[derive(Clone, Copy)]
 enum Kind {
     Skip,
     Problem(usize),
@@ -251,7 +252,7 @@ fn read_line(line: &[u8], s: State, prefix: &mut [i32], matrix: &mut [i32]) -> O
 }
 
 // A refusal's number and line, or what was read.
-#[derive(Drop)]
+#[derive(Clone, Copy)]
 pub enum Answer {
     Refused(u32, u32),
     Done(Reading),

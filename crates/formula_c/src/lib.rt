@@ -1,4 +1,5 @@
 // Reading a formula, with C's calling convention.
+#![tactic(auto)]
 ghost use Rattle.std.specs.Prelude.{◌≡◌};
 ghost use Rattle.formula_c.specs.Packed.{packed, Read};
 

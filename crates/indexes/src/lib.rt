@@ -1,4 +1,5 @@
 // Which clause has which index: found in one step.
+#![tactic(auto)]
 ghost use Rattle.std.specs.Prelude.{◌≡◌};
 ghost use Rattle.indexes.specs.Shown.{place_at, noted};
 

@@ -1,4 +1,5 @@
 // Bytes, lines, tokens and numbers of a file; the call for a line's bytes.
+#![tactic(auto)]
 ghost use Rattle.std.specs.Prelude.{◌≡◌, true, false, cond, ℕ, ◌+◌, ◌*◌, ◌-◌, ◌<◌, ◌≤◌, min, eqb, length, take, drop, get_or};
 ghost use Rattle.lines.specs.declared.Digits.{Digits};
 ghost use Rattle.lines.specs.declared.Literal.{Literal};
@@ -13,7 +14,7 @@ mod table;
 use crate::table::{BLANK, DIGIT, LETTER, LINE_END, MINUS};
 
 // The classes of bytes.
-#[derive(Drop)]
+#[derive(Clone, Copy)]
 pub enum Class {
     Blank,
     LineEnd,
@@ -81,7 +82,7 @@ fn is_minus(b: u8) -> bool
 }
 
 // What a run of bytes is made of: all but byte 10, blanks, all but blanks.
-#[derive(Drop)]
+#[derive(Clone, Copy)]
 pub enum Run {
     Line,
     Blanks,
@@ -252,7 +253,7 @@ fn with_digit(v: u32, b: u8) -> u32
     CAP
 }
 
-#[derive(Drop)]
+#[derive(Clone, Copy)]
 pub enum Digits {
     Value(u32),
     Bad,
@@ -286,7 +287,7 @@ fn digits_from(word: &[u8], from: usize) -> Digits
 }
 
 // The code of a number of at most the cap: 2v for v, 2v + 1 for -v; anything else.
-#[derive(Drop)]
+#[derive(Clone, Copy)]
 pub enum Number {
     Of(u32),
     Bad,
@@ -315,7 +316,7 @@ pub fn number_of(word: &[u8]) -> Number
 }
 
 // The code of a literal, 2v or 2v + 1, and the place after it.
-#[derive(Drop)]
+#[derive(Clone, Copy)]
 pub enum Literal {
     Of(u32, usize),
     Bad,
@@ -332,7 +333,7 @@ fn word_ends(line: &[u8], at: usize) -> bool
 }
 
 // A number or a literal's code, and the place after it; or nothing is said of the word.
-#[derive(Drop)]
+#[derive(Clone, Copy)]
 pub enum Plain {
     Of(u32, usize),
     Unread,
@@ -451,7 +452,7 @@ fn same(a: &[u8], b: &[u8]) -> bool
     b.len() <= i
 }
 
-#[derive(Drop)]
+#[derive(Clone, Copy)]
 pub enum Found {
     After(usize),
     Nothing,
@@ -473,7 +474,7 @@ pub fn word_is(line: &[u8], at: usize, word: &[u8]) -> Found
 }
 
 // How a line begins: it is skipped; with a word of one byte, and the place after it; with another word.
-#[derive(Drop)]
+#[derive(Clone, Copy)]
 pub enum Head {
     Skipped,
     Letter(u8, usize),

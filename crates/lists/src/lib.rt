@@ -1,4 +1,5 @@
 // The numbers and the lists of a line, literals up to a zero: a first pass that writes nothing, and a second that stores a list in a table.
+#![tactic(auto)]
 ghost use Rattle.std.specs.Prelude.{◌≡◌, ◌+◌, min, max};
 ghost use Rattle.lists.specs.Lists.{natural_at, listed_at, clause_at, mapping_at};
 ghost use Rattle.lists.specs.Stores.{codes_at, ending_at, puts};
@@ -7,7 +8,7 @@ use cells::larger;
 use lines::Literal;
 
 // The next word as a number without a sign, at most the cap, and the place after it.
-#[derive(Drop)]
+#[derive(Clone, Copy)]
 pub enum Natural {
     Of(u32, usize),
     Bad,
@@ -27,7 +28,7 @@ pub fn natural_at(line: &[u8], at: usize) -> Natural
 
 // Literals up to a zero: whether one is negative (0 or 1), how many there are, the largest variable, at most the cap, and the place
 // after the zero.
-#[derive(Drop)]
+#[derive(Clone, Copy)]
 pub enum Listed {
     Good(u32, usize, u32, usize),
     Bad,
@@ -55,7 +56,7 @@ pub fn list_at(line: &[u8], at: usize) -> Listed
 }
 
 // Literals and a zero that ends the line: as above, without the place.
-#[derive(Drop)]
+#[derive(Clone, Copy)]
 pub enum Clause {
     Good(u32, usize, u32),
     Bad,
@@ -74,7 +75,7 @@ pub fn clause_at(line: &[u8], at: usize) -> Clause
 }
 
 // The three lists of a mapping line: their lengths k, k and m, their largest variables, and where the second and the third start.
-#[derive(Drop)]
+#[derive(Clone, Copy)]
 pub enum Mapping {
     Lists(usize, usize, u32, u32, u32, usize, usize),
     Bad,
@@ -105,7 +106,7 @@ pub fn mapping_at(line: &[u8], at: usize) -> Mapping
 }
 
 // What ends a second pass: the list's zero, or a token that is no literal.
-#[derive(Drop)]
+#[derive(Clone, Copy)]
 pub enum Ending {
     Zero,
     Bad,

@@ -1,4 +1,5 @@
 // Rule 7: which copies are mapped.
+#![tactic(auto)]
 pub mod numbers;
 
 ghost use Rattle.std.specs.Prelude.{◌≡◌, ◌/◌};

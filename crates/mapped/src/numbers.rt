@@ -4,7 +4,7 @@ ghost use Rattle.mapped.specs.Numbers.{ItemAt};
 use lines::Literal;
 
 // A variable of a list and the place after it; or the list's end, with the refusal that it is: 0, and 2 for a token that is no literal.
-#[derive(Drop)]
+#[derive(Clone, Copy)]
 pub enum Item {
     Of(usize, usize),
     End(u32),

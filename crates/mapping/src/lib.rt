@@ -1,4 +1,5 @@
 // Mapping lines, `x P1..Pk 0 E1..Ek 0 L1..Lm 0`: storing, and the whole line.
+#![tactic(auto)]
 mod stores;
 
 ghost use Rattle.std.specs.Prelude.{◌≡◌};
@@ -14,14 +15,14 @@ pub use stores::store;
 pub const PLACES: usize = 2147483648;
 
 // The places of the map table in use, and the largest copy so far.
-#[derive(Drop)]
+#[derive(Clone, Copy)]
 pub struct Mapped {
     pub used: usize,
     pub largest: u32,
 }
 
 // The state after a mapping line, or the number of its refusal.
-#[derive(Drop)]
+#[derive(Clone, Copy)]
 pub enum Answer {
     Next(Mapped),
     Refuse(u32),

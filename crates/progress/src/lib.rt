@@ -1,4 +1,5 @@
 // What is carried from line to line of a certificate: the order of its lines, its hints and limits, and its end.
+#![tactic(auto)]
 mod ending;
 mod order;
 
@@ -11,7 +12,7 @@ use propagation::Units;
 use reading::Counts;
 
 // Whether there was an `o` line, and how many hints it has.
-#[derive(Drop)]
+#[derive(Clone, Copy)]
 pub struct Hinted {
     pub given: bool,
     pub count: usize,
@@ -19,7 +20,7 @@ pub struct Hinted {
 
 // What is carried from line to line, beside the tables: what was read of the formula, the copies mapped, the hints, the clauses stored,
 // what follows from the standing clauses alone, and the lines accepted.
-#[derive(Drop)]
+#[derive(Clone, Copy)]
 pub struct Progress {
     pub formula: Reading,
     pub mapped: Mapped,
@@ -30,7 +31,7 @@ pub struct Progress {
 }
 
 // What a line leads to: the next progress, or a refusal's number.
-#[derive(Drop)]
+#[derive(Clone, Copy)]
 pub enum Step {
     Next(Progress),
     Refuse(u32),

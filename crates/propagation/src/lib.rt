@@ -1,4 +1,5 @@
 // Unit propagation over the standing clauses, in any order of units, and what follows from them alone.
+#![tactic(auto)]
 ghost use Rattle.std.specs.Prelude.{◌<◌};
 ghost use Rattle.clauses.specs.Standing.{standing_in};
 ghost use Rattle.trail.specs.Trail.{ReadyIn};
@@ -19,21 +20,21 @@ pub type Watches = [u32; 458752];
 pub const END: u32 = 4294967295;
 
 // Following watches: the trail's length, after a conflict or so far.
-#[derive(Drop)]
+#[derive(Clone, Copy)]
 pub enum Visit {
     Conflict(usize),
     Go(usize),
 }
 
 // What the clause of a watch came to: a conflict, or the trail's length and a literal to watch.
-#[derive(Drop)]
+#[derive(Clone, Copy)]
 pub enum Turn {
     Conflict,
     Watch(usize, u32),
 }
 
 // A look at all standing clauses.
-#[derive(Drop)]
+#[derive(Clone, Copy)]
 pub enum Scan {
     Falsified,
     Unit(u32),
@@ -41,14 +42,14 @@ pub enum Scan {
 }
 
 // "Propagation answers conflict or stable", with the trail's length.
-#[derive(Drop)]
+#[derive(Clone, Copy)]
 pub enum Propagated {
     Conflict(usize),
     Stable(usize),
 }
 
 // What follows from the standing clauses alone: the trail's length, and the place up to which its watches are followed.
-#[derive(Drop)]
+#[derive(Clone, Copy)]
 pub struct Units {
     pub n: usize,
     pub q: usize,

@@ -7,7 +7,7 @@ use clauses::{Cursor, after, literal};
 use trail::{Falses, is_off};
 
 // The distinct literals of a clause that are not false: none, one, or two of more.
-#[derive(Drop)]
+#[derive(Clone, Copy)]
 pub enum Look {
     Falsified,
     Unit(u32),

@@ -1,11 +1,12 @@
 // How the reading of a certificate ends, whatever its kind, and the report of it.
+#![tactic(auto)]
 ghost use Rattle.std.specs.Prelude.{◌≡◌};
 ghost use Rattle.reading.specs.Ends.{ended_by, report_of, refused_early};
 
 use rules::{Report, Verdict};
 
 // The lines accepted: expansions, additions or resolutions, deletions.
-#[derive(Drop)]
+#[derive(Clone, Copy)]
 pub struct Counts {
     pub expansions: u32,
     pub additions: u32,
@@ -13,7 +14,7 @@ pub struct Counts {
 }
 
 // Closed, or refused with a number and a line; and the lines accepted.
-#[derive(Drop)]
+#[derive(Clone, Copy)]
 pub enum Ended {
     Closed(Counts),
     Refused(u32, u32, Counts),

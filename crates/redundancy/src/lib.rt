@@ -1,4 +1,5 @@
 // Additions: RUP, and RAT on the first written literal.
+#![tactic(auto)]
 ghost use Rattle.std.specs.Prelude.{◌≡◌};
 ghost use Rattle.clauses.specs.Standing.{standing_in, literals_in, literal_at};
 ghost use Rattle.trail.specs.Trail.{ReadyIn};
@@ -9,7 +10,7 @@ use clauses::{Cursor, after, clause, holds, literal, none, stands};
 use propagation::{Propagated, Units, Visit, Watches, ground, propagate};
 use trail::{Falses, Trail, assume, flip, is_true, undo};
 
-#[derive(Drop)]
+#[derive(Clone, Copy)]
 pub enum Addition {
     Accepted(Units),
     Refused,

@@ -1,4 +1,5 @@
 // Whether a clause is the resolvent of two others, in time linear in the three: by a walk over each parent and two or three over the clause.
+#![tactic(auto)]
 // The clause's codes are marked in an array that is lent and left clear: with 1, and the signs of the parents that hold the code too.
 ghost use Rattle.std.specs.Prelude.{◌≡◌, ◌≤◌, ◌<◌, eqb};
 ghost use Rattle.lines.specs.Lists.{any};

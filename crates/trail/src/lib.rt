@@ -1,4 +1,5 @@
 // Which literals are false, and since when. A literal is its code. falses[l] is not 0: the literal l is false; trail[0..n): the false
+#![tactic(auto)]
 // literals, in the order in which they became false.
 ghost use Rattle.std.specs.Prelude.{◌≡◌, ◌≤◌, ◌<◌};
 ghost use Rattle.rules.specs.Codes.{flip as negation};

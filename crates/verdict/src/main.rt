@@ -1,4 +1,5 @@
 // The program: loads the two files of the working folder, checks them and writes the verdict's line.
+#![tactic(auto)]
 ghost use Rattle.std.specs.Prelude.{◌≡◌, ◌≤◌, length, take};
 ghost use Rattle.tables.specs.Tables.{six};
 ghost use Rattle.verdict.specs.Program.{ReportedIn, Printed};
