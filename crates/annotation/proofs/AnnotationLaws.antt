@@ -1,6 +1,6 @@
 -- Rule 8 over the prefix table is rule 8 of the rules. Assumes nothing.
 use mathlib.Core.Path.{◌≡◌, refl, ap, ap₂, sym, ◌∙◌, subst}
-use mathlib.Core.Bool.{Bool, true, false, cond, ◌&&◌, and_true}
+use mathlib.Core.Bool.{Bool, true, false, cond, ◌&&◌, and-true}
 use mathlib.Core.List.Memᴰ
 use mathlib.Core.List.{List, [], ◌∷◌, append-nil}
 use Prim.Native.Nat.{ℕ, ◌<◌, ◌≤◌}
@@ -62,7 +62,7 @@ module _ (w : ℕ → ℕ) (bs : List ℕ) (at : ℕ) where
     pub walk_end : {n : ℕ} → ItemAt bs i (Item.End n) → n ≡ 0 → Walked w (numbers_at bs at) (end_of bs at) (Narrowest.Of e)
     walk_end o z = (
       sym z ∙ all_end 8 (is_existential w) bs at i h.tests o,
-      λ u. sym (and_true (under_one w e u)) ∙ ap (λ es. under_one w e u && all (λ d. dependency w d u) es) (sym o.0) ∙ h.narrow u,
+      λ u. sym (and-true (under_one w e u)) ∙ ap (λ es. under_one w e u && all (λ d. dependency w d u) es) (sym o.0) ∙ h.narrow u,
     )
 
     pub walk_lost : {n : ℕ} → ItemAt bs i (Item.End n) → (n ≡ 0 → ⊥) → Walked w (numbers_at bs at) (end_of bs at) (Narrowest.Refuse n)

@@ -2,7 +2,7 @@
 use mathlib.Core.Path.{◌≡◌, refl, sym, ap, ap₂, subst, ◌∙◌}
 use mathlib.Core.Bool.{Bool, true, false, not, cond, ◌&&◌, ◌||◌, false≢true}
 use mathlib.Core.List.Memᴰ
-use mathlib.Core.List.{List, [], ◌∷◌, ◌++◌, map, map_append}
+use mathlib.Core.List.{List, [], ◌∷◌, ◌++◌, map, map-append}
 use Prim.Native.Nat.{ℕ, ◌+◌, ◌*◌, ◌/◌, ◌%◌, ◌≤◌, ◌<◌}
 use native.Mathlib.Omega.{arith}
 use lib.IntN.{ℤ}
@@ -278,13 +278,13 @@ module _ (prefix values maps proof matrix : List ℤ) (l c n : ℕ) (f : Formula
   annotations_code [] h = refl
   annotations_code (x ∷ ls) h =
       ap₂ ◌++◌ (code_annotation x (h x (Memᴰ.head refl))) (annotations_code ls λ y i. h y (Memᴰ.tail i))
-      ∙ sym (map_append code_of (ann (var x)) (annotations m (vars ls)))
+      ∙ sym (map-append code_of (ann (var x)) (annotations m (vars ls)))
 
   least_code : T ≡ joined [] (map code_of least)
   unfolding least_of least_by
   least_code =
       ap (joined []) (ap₂ ◌++◌ (negations_code clause clause_ranged) (annotations_code line λ x i. i)
-      ∙ sym (map_append code_of (map negate (universals f clause)) (annotations m (vars line))))
+      ∙ sym (map-append code_of (map negate (universals f clause)) (annotations m (vars line))))
 
   least_ranged : (y : Lit) → In y least → var y ≤ n
   least_ranged y i =

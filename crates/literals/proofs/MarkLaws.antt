@@ -1,6 +1,6 @@
 -- Laws of the tests over marks: each turn of the code, and what the tests say of the line and the clause. Assumes nothing.
 use mathlib.Core.Path.{◌≡◌, refl, ap, sym, ◌∙◌, fun_ext}
-use mathlib.Core.Bool.{Bool, true, false, cond, not, ◌&&◌, ◌||◌, and_true, or_true, false≢true}
+use mathlib.Core.Bool.{Bool, true, false, cond, not, ◌&&◌, ◌||◌, and-true, or-true, false≢true}
 use mathlib.Core.List.{List, [], ◌∷◌}
 use Prim.Native.Nat.{ℕ, zero, suc, ◌+◌, ◌/◌, ◌<◌, ◌≤◌}
 use native.Mathlib.Omega.{arith}
@@ -171,7 +171,7 @@ module _ (w st : ℕ → ℕ) (ls : List ℕ) where
   module _ (t : List ℤ) (i : ℕ) {y : ℕ} (e : y ≡ code_at t i) (s : List ℕ) (a : Bool) where
     pub back_stop : y ≡ 0 → ((a && all (answered w st ls s) (list_at t i)) ≡ a) × (cleared (list_at t i) s ≡ s)
     unfolding cleared
-    back_stop z = (ap (λ l. a && all (answered w st ls s) l) (stop t i e z) ∙ and_true a, ap (λ l. cleared l s) (stop t i e z))
+    back_stop z = (ap (λ l. a && all (answered w st ls s) l) (stop t i e z) ∙ and-true a, ap (λ l. cleared l s) (stop t i e z))
 
     pub back_next : (y ≡ 0 → ⊥) → {r : Bool} {u : List ℕ} → r ≡ answered w st ls s y → u ≡ set s y 0
         → ((a && r && all (answered w st ls u) (list_at t (i + 1))) ≡ (a && all (answered w st ls s) (list_at t i)))
@@ -207,7 +207,7 @@ all_in : (p q : ℕ → Bool) (ys : List ℕ) → ((y : ℕ) → is_in ys y ≡ 
 all_in p q [] h = refl
 all_in p q (y ∷ ys) h =
     ap (λ b. b && all p ys) (h y (ap (λ b. b || is_in ys y) (eq-eqb y y refl)))
-    ∙ ap (λ b. q y && b) (all_in p q ys (λ z i. h z (ap (λ b. eqb z y || b) i ∙ or_true (eqb z y))))
+    ∙ ap (λ b. q y && b) (all_in p q ys (λ z i. h z (ap (λ b. eqb z y || b) i ∙ or-true (eqb z y))))
 
 -- a code without a mark has none after marks are taken back
 cleared_none : (ys s : List ℕ) (y : ℕ) → (is_in ys y ≡ false → get_or s y 0 ≡ 0) → get_or (cleared ys s) y 0 ≡ 0

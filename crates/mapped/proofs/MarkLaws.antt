@@ -1,6 +1,6 @@
 -- Rule 7: copies noted one after the other, and what the marks show of the mapping. Assumes nothing.
 use mathlib.Core.Path.{◌≡◌, refl, ap, ap₂, sym, ◌∙◌}
-use mathlib.Core.Bool.{Bool, true, false, not, ◌&&◌, ◌||◌, cond, and_false, false≢true}
+use mathlib.Core.Bool.{Bool, true, false, not, ◌&&◌, ◌||◌, cond, and-false, false≢true}
 use mathlib.Core.List.Memᴰ
 use mathlib.Core.List.{List, [], ◌∷◌, ◌++◌}
 use Prim.Native.Nat.{ℕ, ◌/◌, ◌<◌, ◌≤◌}
@@ -51,7 +51,7 @@ module _ (bs : List ℕ) (at i : ℕ) (ns₀ ns : List ℕ) (k : ℕ)
     pub noting_old : (get_or ns p 0 ≡ 0 → ⊥) → Notes (numbers_at bs at) ns₀ k (end_of bs at) k ns
     unfolding is_free ruled
     noting_old n =
-        noted false (ap step (sym (ap (λ b. leb p 16384 && b) (ne_eqb (get_or ns p 0) 0 n) ∙ and_false (leb p 16384))) ∙ one_copy) refl
+        noted false (ap step (sym (ap (λ b. leb p 16384 && b) (ne_eqb (get_or ns p 0) 0 n) ∙ and-false (leb p 16384))) ∙ one_copy) refl
 
     pub noting_more : p ≤ 16384 → get_or ns p 0 ≡ 0
         → (noting (numbers_at bs a) (set ns p 1) ≡ noting (numbers_at bs at) ns₀) × (end_of bs a ≡ end_of bs at)
@@ -112,7 +112,7 @@ noting_fresh (p ∷ ps) ns ms l d h = go (leb p 16384) refl (noting_fresh ps (se
 
     test : p ≤ 16384 → (x : Bool) → is_in ms p ≡ x → Later → (cond (not x) rest (marking false ns)).fresh ≡ low && distinct (p ∷ (ps ++ ms))
     test b true e i =
-        sym (ap (λ x. low && x) (by_yes (distinct (p ∷ (ps ++ ms))) (λ d. distinct_new p (ps ++ ms) d (Memᴰ.append_right ps (is_in_in ms p e)))) ∙ and_false low)
+        sym (ap (λ x. low && x) (by_yes (distinct (p ∷ (ps ++ ms))) (λ d. distinct_new p (ps ++ ms) d (Memᴰ.append_right ps (is_in_in ms p e)))) ∙ and-false low)
     test b false e i =
         i (length-set ns p 1 ∙ l) (distinct_cons p ms (λ j. clear (in_is_in ms p j) e) d) (marked_more ns (is_in ms) p (omega arith) h)
         ∙ ap (λ x. low && x) (distinct_move p ps ms)

@@ -1,6 +1,6 @@
 -- The test over the stray codes and what all three clauses hold is the test on every code of d. Assumes nothing.
 use mathlib.Core.Path.{◌≡◌, refl, sym, ◌∙◌, ap}
-use mathlib.Core.Bool.{Bool, true, false, cond, not, ◌&&◌, ◌||◌, and_true, and_false, and_self, and_assoc, and_comm, or_true, or_false}
+use mathlib.Core.Bool.{Bool, true, false, cond, not, ◌&&◌, ◌||◌, and-true, and-false, and_self, and_assoc, and_comm, or-true, or-false}
 use mathlib.Core.List.Memᴰ
 use mathlib.Core.List.{List, [], ◌∷◌}
 use Prim.Native.Nat.{ℕ}
@@ -34,8 +34,8 @@ free r x = eqb r 0 || eqb r x
 module _ (p : ℕ → Bool) (x : ℕ) (proper : x ≡ 1 → ⊥) where
   met_free : (t : Bool) (r y : ℕ) → (y ≡ 0 → ⊥) → (free r x && (eqb y x || t)) ≡ free (meet (not t) r y) x
   unfolding meet
-  met_free true r y n = ap (λ t. free r x && t) (or_true (eqb y x)) ∙ and_true (free r x)
-  met_free false r y n = ap (λ t. free r x && t) (or_false (eqb y x)) ∙ go (eqb r 0) refl (eqb r y) refl
+  met_free true r y n = ap (λ t. free r x && t) (or-true (eqb y x)) ∙ and-true (free r x)
+  met_free false r y n = ap (λ t. free r x && t) (or-false (eqb y x)) ∙ go (eqb r 0) refl (eqb r y) refl
     where
       -- y is the stray code
       this : eqb y x ≡ free y x
@@ -53,7 +53,7 @@ module _ (p : ℕ → Bool) (x : ℕ) (proper : x ≡ 1 → ⊥) where
 
   stray_from : (ys : List ℕ) → NoZero ys → (r : ℕ) → (free r x && all_but p x ys) ≡ free (stray (λ y. not (p y)) ys r) x
   unfolding stray all_but
-  stray_from [] n r = and_true (free r x)
+  stray_from [] n r = and-true (free r x)
   stray_from (y ∷ ys) n r =
       sym (and_assoc (free r x) (eqb y x || p y) (all_but p x ys))
       ∙ ap (λ t. t && all_but p x ys) (met_free (p y) r y (n y (Memᴰ.head refl)))
@@ -196,7 +196,7 @@ module _ (c ys zs : List ℕ) (some : NoZero ys) where
       go true e b f = at_zero (is_in c x) (is_in ys x) (is_in zs x) (none_missing (eqb-true missed 0 e) x) ∙ sym s
       go false e true f =
           let q = eqb-true missed x f in there (is_in c x) (is_in ys x) (is_in zs x) (is_out e q) (is_there e q)
-      go false e false f = ap (λ t. t && (not (is_in c x) || is_in zs x)) (and_false (is_in ys x))
+      go false e false f = ap (λ t. t && (not (is_in c x) || is_in zs x)) (and-false (is_in ys x))
 
 -- THE WHOLE TEST
 sorted : (i a f g v x y : Bool) → (i && (a && f && g && (v && x && y))) ≡ (v && ((i && f && x) && (a && g && y)))

@@ -1,6 +1,6 @@
 -- Laws of walks along a clause, at its end and at a code, and of the answers on the way. Assumes nothing.
 use mathlib.Core.Path.{◌≡◌, refl, sym, ◌∙◌, ap, fun_ext}
-use mathlib.Core.Bool.{Bool, true, false, cond, not, ◌&&◌, ◌||◌, and_true, or_false}
+use mathlib.Core.Bool.{Bool, true, false, cond, not, ◌&&◌, ◌||◌, and-true, or-false}
 use mathlib.Core.List.{List, [], ◌∷◌}
 use Prim.Native.Nat.{ℕ, zero, suc, ◌+◌, ◌<◌}
 use native.Mathlib.Omega.{arith}
@@ -63,7 +63,7 @@ module _ (rest : List ℕ) where
 
     pub covered_end : (a : Bool) (s : List ℕ) → (a && covered s rest) ≡ a
     unfolding covered
-    covered_end a s = ap (λ x. a && covered s x) e ∙ and_true a
+    covered_end a s = ap (λ x. a && covered s x) e ∙ and-true a
 
     pub stray_end : (out : ℕ → Bool) (p : ℕ) → stray out rest p ≡ p
     unfolding stray
@@ -127,12 +127,12 @@ module _ (shared : ℕ → Bool) (p q : ℕ) where
   pub by_first : (c : List ℕ) (r : Bool) → (p ≡ 0 → ⊥) → r ≡ pivot shared p q p → Found r c
   unfolding candidates
   by_first c r n h =
-      h ∙ sym (or_false (pivot shared p q p))
+      h ∙ sym (or-false (pivot shared p q p))
       ∙ ap (λ t. any (pivot shared p q) (cond t (cond (eqb q 0) c (flip q ∷ [])) (p ∷ []))) (sym (ne_eqb p 0 n))
 
   pub by_second : (c : List ℕ) (x : ℕ) (r : Bool) → p ≡ 0 → (q ≡ 0 → ⊥) → x ≡ flip q → r ≡ pivot shared p q x → Found r c
   unfolding candidates
   by_second c x r z n e h =
-      h ∙ ap (pivot shared p q) e ∙ sym (or_false (pivot shared p q (flip q)))
+      h ∙ ap (pivot shared p q) e ∙ sym (or-false (pivot shared p q (flip q)))
       ∙ ap (λ t. any (pivot shared p q) (cond t c (flip q ∷ []))) (sym (ne_eqb q 0 n))
       ∙ ap (λ t. any (pivot shared p q) (cond t (cond (eqb q 0) c (flip q ∷ [])) (p ∷ []))) (sym (eq-eqb p 0 z))

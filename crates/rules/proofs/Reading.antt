@@ -1,7 +1,7 @@
 -- What a formula that was read keeps of the rules; limits change no formula that they let through.
 use mathlib.Core.Path.{◌≡◌, refl, ap, subst, ◌∙◌}
 use mathlib.Core.Bool.{true, ◌&&◌}
-use mathlib.Core.List.{List, ◌++◌, map, map_append}
+use mathlib.Core.List.{List, ◌++◌, map, map-append}
 use mathlib.Core.Option.{Option, none, some}
 use Prim.Native.Nat.{ℕ, ◌+◌}
 use lib.Dec.{eqb, leb}
@@ -76,7 +76,7 @@ module _ (limits : Limits) where
   judge_once (some f) (binding bs) s' h p =
       let r = binding_next f bs s' h in
       subst Once {x = some (with_bound f bs)} r.1
-      (ap distinct (map_append bound_var f.prefix bs) ∙ distinct_swap (map bound_var bs) (bound f) r.0)
+      (ap distinct (map-append bound_var f.prefix bs) ∙ distinct_swap (map bound_var bs) (bound f) r.0)
   judge_once (some f) (clause c) s' h p = subst Once {x = some (with_clause f c)} (clause_next f c s' h).2 p
 
   bytes_once : (s : Option Formula) (bs : List ℕ) (s' : Option Formula) → judge_bytes formula_line (judge_formula limits) s bs ≡ next s'

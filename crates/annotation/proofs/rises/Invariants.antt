@@ -1,0 +1,13 @@
+use native.Mathlib.Omega.{arith}
+use mathlib.Core.Path.{◌≡◌, refl, sym, ◌∙◌}
+use Prim.Native.Nat.{ℕ, ◌-◌}
+use lib.ListN.{length}
+use Rattle.mapped.proofs.NumberLaws.{item_told}
+use Rattle.annotation.proofs.RisingLaws.{Rising, rising_end, rising_more}
+use Rattle.annotation.proofs.rises.Given as goal
+
+abbrev pub invariant-loop-n : goal.invariant-loop-n
+invariant-loop-n l = Rising l.line l.at l.last l.i
+
+abbrev pub decreases-loop-n : goal.decreases-loop-n
+decreases-loop-n l = length l.line - l.i

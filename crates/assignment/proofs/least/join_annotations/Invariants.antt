@@ -1,0 +1,17 @@
+use mathlib.Core.Path.{◌≡◌, refl, ◌∙◌}
+use native.Mathlib.Omega.{arith}
+use Prim.Native.Nat.{◌-◌, ◌≤◌}
+use lib.ListN.{length}
+use Rattle.cells.specs.Cells.{list_at}
+use Rattle.assignment.specs.Held.{listed, joined, Held}
+use Rattle.copies.proofs.Walks.{inside}
+use Rattle.copies.specs.Copies.{annotation_of}
+use Rattle.assignment.specs.Annotations.{annotations_of}
+use Rattle.assignment.proofs.Arms.{join_past, notes_stop, notes_turn}
+use Rattle.assignment.proofs.least.join_annotations.Given as goal
+
+abbrev pub invariant-loop-n : goal.invariant-loop-n
+invariant-loop-n l = (l.k ≤ 8194) × (length l.seen ≡ length l.initial.seen) × (length l.held ≡ length l.initial.held) × (Held l.initial.seen l.initial.held l.n → Held l.seen l.held l.k × (joined (listed l.held l.k) (list_at l.map l.last) ≡ listed l.held l.k) × (joined (listed l.held l.k) (annotations_of (annotation_of l.values l.map) (list_at l.proof l.i)) ≡ joined (listed l.initial.held l.n) (annotations_of (annotation_of l.values l.map) (list_at l.proof l.l))))
+
+abbrev pub decreases-loop-n : goal.decreases-loop-n
+decreases-loop-n l = length l.proof - l.i

@@ -1,0 +1,14 @@
+use native.Mathlib.Omega.{arith}
+use mathlib.Core.Path.{◌≡◌, refl, sym, ◌∙◌}
+use Prim.Native.Nat.{◌+◌, ◌≤◌, ◌-◌}
+use lib.ListN.{length}
+use Rattle.lists.specs.Lists.{listed_at}
+use Rattle.lists.proofs.ListLaws.{merged, merged_none, turn_lost, turn_end, turn_more, on_the_way}
+use Rattle.buffers.proofs.BufferLaws.{Keeping, keeping_start, keeping_lost, keeping_end, keeping_more}
+use Rattle.buffers.proofs.list_at.Given as goal
+
+abbrev pub invariant-loop-x : goal.invariant-loop-x
+invariant-loop-x l = (l.n + l.at ≤ l.i) × (merged l.s l.n l.m (listed_at l.line l.i) ≡ listed_at l.line l.at) × Keeping l.line l.at l.initial.buffer l.i l.n l.buffer × (length l.buffer ≡ length l.initial.buffer)
+
+abbrev pub decreases-loop-x : goal.decreases-loop-x
+decreases-loop-x l = length l.line - l.i

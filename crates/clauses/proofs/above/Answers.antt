@@ -1,0 +1,7 @@
+use mathlib.Core.Path.{refl}
+use Rattle.clauses.specs.Standing.{empty_above}
+use Rattle.clauses.proofs.above.Goals as goal
+
+pub returns : goal.returns
+unfolding empty_above
+returns c = refl

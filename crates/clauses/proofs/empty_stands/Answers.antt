@@ -1,0 +1,22 @@
+use borrow.Author.Rules.{rules}
+use borrow.Author.Count.{below_more}
+use mathlib.Core.Path.{◌≡◌, sym, ◌∙◌}
+use mathlib.Core.Bool.{true}
+use Prim.Native.Nat.{ℕ, ◌-◌, ◌<◌, ◌≤◌}
+use native.Mathlib.Omega.{arith}
+use Rattle.rules.proofs.Kit.{clear}
+use Rattle.clauses.specs.Standing.{empty_at}
+use Rattle.clauses.proofs.StandingLaws.{empty_found, empty_none}
+use Rattle.clauses.proofs.empty_stands.Goals as goal
+
+pub loop-k-init : goal.loop-k-init
+loop-k-init c = (omega arith, λ j h e. omega arith)
+
+pub returns-then-empty_at : goal.returns-then-empty_at
+returns-then-empty_at c = empty_found _ _ _ _ c.loop-k-test.true (sym c.empty_at.ensures ∙ c.if-empty_at.true)
+
+pub loop-k-preserved : goal.loop-k-preserved
+loop-k-preserved c = (search rules, below_more _ _ c.loop-k.invariant.1 λ e. clear e (sym c.empty_at.ensures ∙ c.if-empty_at.false))
+
+pub returns : goal.returns
+returns c = empty_none _ _ _ λ j h e. c.loop-k.invariant.1 j (omega (arith, c.loop-k-test.false)) e

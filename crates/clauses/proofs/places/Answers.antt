@@ -1,0 +1,7 @@
+use mathlib.Core.Path.{refl}
+use Rattle.clauses.specs.Standing.{places_of}
+use Rattle.clauses.proofs.places.Goals as goal
+
+pub returns : goal.returns
+unfolding places_of
+returns c = refl

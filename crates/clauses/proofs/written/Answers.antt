@@ -1,0 +1,7 @@
+use mathlib.Core.Path.{refl}
+use Rattle.clauses.specs.Standing.{written_at}
+use Rattle.clauses.proofs.written.Goals as goal
+
+pub returns : goal.returns
+unfolding written_at
+returns c = refl

@@ -1,0 +1,11 @@
+use native.Mathlib.Omega.{arith}
+use Prim.Native.Nat.{◌-◌, ◌≤◌}
+use Rattle.clauses.specs.Standing.{NoneIn}
+use Rattle.clauses.proofs.StandingLaws.{none_start, none_more}
+use Rattle.deletion.proofs.passed.Given as goal
+
+abbrev pub invariant-loop-j : goal.invariant-loop-j
+invariant-loop-j l = (l.k ≤ l.j) × NoneIn l.table l.marks l.k l.j
+
+abbrev pub decreases-loop-j : goal.decreases-loop-j
+decreases-loop-j l = l.n - l.j

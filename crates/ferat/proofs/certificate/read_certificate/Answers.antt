@@ -1,0 +1,70 @@
+use borrow.Author.Rules.{rules}
+use native.Mathlib.Omega.{arith}
+use mathlib.Core.Path.{◌∙◌}
+use Prim.Native.Nat.{◌-◌}
+use lib.ListN.{length}
+use Rattle.tables.specs.Tables.{tables}
+use Rattle.progress.specs.Shown.{work}
+use mathlib.Core.Path.{ap}
+use Rattle.reading.proofs.ReadLaws.{Midway, midway_start, midway_ends, midway_less, midway_fits, midway_count, midway_next, midway_refused, midway_last}
+use Rattle.progress.specs.Shown.{ferat_rules, ferat_code, answer_of}
+use Rattle.ferat.proofs.CertificateLaws.{ferat_apt, ended_is}
+use Rattle.ferat.proofs.certificate.read_certificate.Goals as goal
+
+pub loop-t-init : goal.loop-t-init
+loop-t-init c = midway_start ferat_apt
+
+pub slice_bounds-certificate_line-start : goal.slice_bounds-certificate_line-start
+slice_bounds-certificate_line-start c = omega (arith, c.line_end-e.ensures)
+
+pub slice_bounds-certificate_line-end : goal.slice_bounds-certificate_line-end
+slice_bounds-certificate_line-end c = midway_ends ferat_apt c.loop-t.invariant c.line_end-e.ensures
+
+pub enum_known-t : goal.enum_known-t
+enum_known-t c = search c
+
+pub enum_known-k : goal.enum_known-k
+enum_known-k c = search c
+
+pub shape_of-map-in-Refuse : goal.shape_of-map-in-Refuse
+shape_of-map-in-Refuse c = c.certificate_line.auto.1.1.1.1.0 ∙ c.loop-t.invariant.long.0
+
+pub shape_of-proof-in-Refuse : goal.shape_of-proof-in-Refuse
+shape_of-proof-in-Refuse c = c.certificate_line.auto.1.1.1.1.1.0 ∙ c.loop-t.invariant.long.1
+
+pub shape_of-marks-in-Refuse : goal.shape_of-marks-in-Refuse
+shape_of-marks-in-Refuse c = c.certificate_line.auto.1.1.1.1.1.1.0 ∙ c.loop-t.invariant.long.2
+
+pub shape_of-values-in-Refuse : goal.shape_of-values-in-Refuse
+shape_of-values-in-Refuse c = c.certificate_line.auto.1.1.1.1.1.1.1.0 ∙ c.loop-t.invariant.long.3
+
+pub returns-in-Refuse : goal.returns-in-Refuse
+returns-in-Refuse c = midway_refused ferat_apt c.loop-t.invariant c.line_end-e.ensures c.requires _ _ c.certificate_line.ensures _ (ap answer_of c.in-Refuse.is)
+
+pub shape_of-map-then-certificate-e : goal.shape_of-map-then-certificate-e
+shape_of-map-then-certificate-e c = c.certificate_line.auto.1.1.1.1.0 ∙ c.loop-t.invariant.long.0
+
+pub shape_of-proof-then-certificate-e : goal.shape_of-proof-then-certificate-e
+shape_of-proof-then-certificate-e c = c.certificate_line.auto.1.1.1.1.1.0 ∙ c.loop-t.invariant.long.1
+
+pub shape_of-marks-then-certificate-e : goal.shape_of-marks-then-certificate-e
+shape_of-marks-then-certificate-e c = c.certificate_line.auto.1.1.1.1.1.1.0 ∙ c.loop-t.invariant.long.2
+
+pub shape_of-values-then-certificate-e : goal.shape_of-values-then-certificate-e
+shape_of-values-then-certificate-e c = c.certificate_line.auto.1.1.1.1.1.1.1.0 ∙ c.loop-t.invariant.long.3
+
+pub returns-then-certificate-e : goal.returns-then-certificate-e
+returns-then-certificate-e c = midway_last ferat_apt c.loop-t.invariant c.line_end-e.ensures c.requires _ _ c.certificate_line.ensures _ (ap answer_of c.in-Next.is) c.if-certificate-e.true c.end_broken.result (ended_is c.end_broken.ensures) c.at_end.ensures
+
+pub overflow_add-at : goal.overflow_add-at
+overflow_add-at c = midway_fits ferat_apt c.loop-t.invariant c.line_end-e.ensures c.requires c.if-certificate-e.false
+
+pub overflow_add-n : goal.overflow_add-n
+overflow_add-n c = midway_count ferat_apt c.loop-t.invariant c.line_end-e.ensures c.requires
+
+pub loop-t-smaller : goal.loop-t-smaller
+loop-t-smaller c = midway_less ferat_apt c.loop-t.invariant c.line_end-e.ensures c.if-certificate-e.false
+
+pub loop-t-preserved : goal.loop-t-preserved
+loop-t-preserved c = let k = c.certificate_line.auto.1.1.1.1 in
+    midway_next ferat_apt c.loop-t.invariant c.line_end-e.ensures c.requires _ _ c.certificate_line.ensures _ (ap answer_of c.in-Next.is) c.if-certificate-e.false (k.0, k.1.0, k.1.1.0, k.1.1.1.0)

@@ -1,0 +1,82 @@
+use borrow.Author.Rules.{rules}
+use native.Mathlib.Omega.{arith}
+use mathlib.Core.Path.{◌≡◌, refl, ap, ◌∙◌}
+use Prim.Native.Nat.{◌-◌}
+use lib.ListN.{length}
+use Rattle.tables.specs.Tables.{tables}
+use Rattle.reading.proofs.ReadLaws.{Midway, midway_start, midway_ends, midway_less, midway_fits, midway_count, midway_next, midway_refused, midway_last}
+use Rattle.derivations.specs.Shown.{work, ferp_rules, ferp_code, answer_of}
+use Rattle.ferp.proofs.CertificateLaws.{ferp_apt, ended_is}
+use Rattle.ferp.proofs.certificate.read_certificate.Goals as goal
+
+pub loop-t-init : goal.loop-t-init
+loop-t-init c = (midway_start ferp_apt, refl, refl)
+
+pub slice_bounds-certificate_line-start : goal.slice_bounds-certificate_line-start
+slice_bounds-certificate_line-start c = omega (arith, c.line_end-e.ensures)
+
+pub slice_bounds-certificate_line-end : goal.slice_bounds-certificate_line-end
+slice_bounds-certificate_line-end c = midway_ends ferp_apt c.loop-t.invariant.0 c.line_end-e.ensures
+
+pub certificate_line-requires : goal.certificate_line-requires
+certificate_line-requires c = omega (arith, c.requires.1, c.loop-t.invariant.1)
+
+pub enum_known-t : goal.enum_known-t
+enum_known-t c = search c
+
+pub enum_known-k : goal.enum_known-k
+enum_known-k c = search c
+
+pub shape_of-map-in-Refuse : goal.shape_of-map-in-Refuse
+shape_of-map-in-Refuse c = c.certificate_line.auto.1.1.1.1.0 ∙ c.loop-t.invariant.0.long.0
+
+pub shape_of-proof-in-Refuse : goal.shape_of-proof-in-Refuse
+shape_of-proof-in-Refuse c = c.certificate_line.auto.1.1.1.1.1.0 ∙ c.loop-t.invariant.0.long.1
+
+pub shape_of-marks-in-Refuse : goal.shape_of-marks-in-Refuse
+shape_of-marks-in-Refuse c = c.certificate_line.auto.1.1.1.1.1.1.0 ∙ c.loop-t.invariant.0.long.2
+
+pub shape_of-values-in-Refuse : goal.shape_of-values-in-Refuse
+shape_of-values-in-Refuse c = c.certificate_line.auto.1.1.1.1.1.1.1.0 ∙ c.loop-t.invariant.0.long.3
+
+pub shape_of-held-in-Refuse : goal.shape_of-held-in-Refuse
+shape_of-held-in-Refuse c = c.certificate_line.auto.1.1.1.1.1.1.1.1.1.1.1.1.0 ∙ c.loop-t.invariant.1
+
+pub shape_of-buffer-in-Refuse : goal.shape_of-buffer-in-Refuse
+shape_of-buffer-in-Refuse c = c.certificate_line.auto.1.1.1.1.1.1.1.1.1.1.1.1.1.0 ∙ c.loop-t.invariant.2
+
+pub returns-in-Refuse : goal.returns-in-Refuse
+returns-in-Refuse c = midway_refused ferp_apt c.loop-t.invariant.0 c.line_end-e.ensures c.requires.0 _ _ c.certificate_line.ensures _ (ap answer_of c.in-Refuse.is)
+
+pub shape_of-map-then-certificate-e : goal.shape_of-map-then-certificate-e
+shape_of-map-then-certificate-e c = c.certificate_line.auto.1.1.1.1.0 ∙ c.loop-t.invariant.0.long.0
+
+pub shape_of-proof-then-certificate-e : goal.shape_of-proof-then-certificate-e
+shape_of-proof-then-certificate-e c = c.certificate_line.auto.1.1.1.1.1.0 ∙ c.loop-t.invariant.0.long.1
+
+pub shape_of-marks-then-certificate-e : goal.shape_of-marks-then-certificate-e
+shape_of-marks-then-certificate-e c = c.certificate_line.auto.1.1.1.1.1.1.0 ∙ c.loop-t.invariant.0.long.2
+
+pub shape_of-values-then-certificate-e : goal.shape_of-values-then-certificate-e
+shape_of-values-then-certificate-e c = c.certificate_line.auto.1.1.1.1.1.1.1.0 ∙ c.loop-t.invariant.0.long.3
+
+pub shape_of-held-then-certificate-e : goal.shape_of-held-then-certificate-e
+shape_of-held-then-certificate-e c = c.certificate_line.auto.1.1.1.1.1.1.1.1.1.1.1.1.0 ∙ c.loop-t.invariant.1
+
+pub shape_of-buffer-then-certificate-e : goal.shape_of-buffer-then-certificate-e
+shape_of-buffer-then-certificate-e c = c.certificate_line.auto.1.1.1.1.1.1.1.1.1.1.1.1.1.0 ∙ c.loop-t.invariant.2
+
+pub returns-then-certificate-e : goal.returns-then-certificate-e
+returns-then-certificate-e c = midway_last ferp_apt c.loop-t.invariant.0 c.line_end-e.ensures c.requires.0 _ _ c.certificate_line.ensures _ (ap answer_of c.in-Next.is) c.if-certificate-e.true c.end_broken.result (ended_is c.end_broken.ensures) c.at_end.ensures
+
+pub overflow_add-at : goal.overflow_add-at
+overflow_add-at c = midway_fits ferp_apt c.loop-t.invariant.0 c.line_end-e.ensures c.requires.0 c.if-certificate-e.false
+
+pub overflow_add-n : goal.overflow_add-n
+overflow_add-n c = midway_count ferp_apt c.loop-t.invariant.0 c.line_end-e.ensures c.requires.0
+
+pub loop-t-smaller : goal.loop-t-smaller
+loop-t-smaller c = midway_less ferp_apt c.loop-t.invariant.0 c.line_end-e.ensures c.if-certificate-e.false
+
+pub loop-t-preserved : goal.loop-t-preserved
+loop-t-preserved c = let k = c.certificate_line.auto.1.1.1.1 in (midway_next ferp_apt c.loop-t.invariant.0 c.line_end-e.ensures c.requires.0 _ _ c.certificate_line.ensures _ (ap answer_of c.in-Next.is) c.if-certificate-e.false (k.0, k.1.0, k.1.1.0, k.1.1.1.0), c.certificate_line.auto.1.1.1.1.1.1.1.1.1.1.1.1.0 ∙ c.loop-t.invariant.1, c.certificate_line.auto.1.1.1.1.1.1.1.1.1.1.1.1.1.0 ∙ c.loop-t.invariant.2)

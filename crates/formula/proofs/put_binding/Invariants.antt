@@ -1,0 +1,13 @@
+use native.Mathlib.Omega.{arith}
+use mathlib.Core.Path.{sym, ◌∙◌}
+use Prim.Native.Nat.{◌-◌}
+use lib.ListN.{length}
+use Rattle.lists.proofs.ListLaws.{on_the_way}
+use Rattle.formula.proofs.TableLaws.{Marking, marking_start, marking_lost, marking_end, marking_twice, marking_more, variable_1}
+use Rattle.formula.proofs.put_binding.Given as goal
+
+abbrev pub invariant-loop-x : goal.invariant-loop-x
+invariant-loop-x l = Marking l.line l.at l.q l.initial.prefix l.bound l.i l.prefix l.k
+
+abbrev pub decreases-loop-x : goal.decreases-loop-x
+decreases-loop-x l = length l.line - l.i

@@ -1,0 +1,15 @@
+-- The loop: the digits that are left, after the value so far, say what all of them say. Assumes nothing.
+use native.Mathlib.Omega.{arith}
+use mathlib.Core.Path.{◌≡◌, sym, ◌∙◌}
+use Prim.Native.Nat.{◌≤◌, ◌-◌}
+use lib.ListN.{length, drop}
+use borrow.Author.Tests.{not-true, not-false}
+use Rattle.lines.specs.Scan.{cap, digits_in}
+use Rattle.lines.proofs.Numbers.{on, on_past, on_stop, on_go, digits_none, digits_zero, digits_led, digits_on, digit_from}
+use Rattle.lines.proofs.digits_from.Given as goal
+
+abbrev pub invariant-loop-i : goal.invariant-loop-i
+invariant-loop-i l = (l.v ≤ cap) × (on l.v (drop l.i l.word) ≡ digits_in (drop l.from l.word))
+
+abbrev pub decreases-loop-i : goal.decreases-loop-i
+decreases-loop-i l = length l.word - l.i

@@ -1,0 +1,20 @@
+use native.Mathlib.Omega.{arith}
+use mathlib.Core.Path.{◌≡◌, refl, ap, sym, ◌∙◌}
+use Prim.Native.Nat.{◌+◌, ◌-◌}
+use lib.ListN.{length, drop}
+use borrow.Author.Tests.{not-true, not-false}
+use Rattle.lines.specs.Scan.{passes, run}
+use Rattle.lines.proofs.Runs.{run_past, run_stop, run_go}
+use Rattle.lines.proofs.past.Goals as goal
+
+pub loop-i-init : goal.loop-i-init
+loop-i-init c = refl
+
+pub returns-then-not-belongs : goal.returns-then-not-belongs
+returns-then-not-belongs c = sym (c.loop-i.invariant ∙ ap (λ n. c.loop-i.i + n) (run_stop _ _ c.loop-i.i c.loop-i-test.true (sym c.belongs.ensures ∙ not-true _ c.if-not-belongs.true-raw)) ∙ omega arith)
+
+pub loop-i-preserved : goal.loop-i-preserved
+loop-i-preserved c = c.loop-i.invariant ∙ ap (λ n. c.loop-i.i + n) (run_go _ _ c.loop-i.i c.loop-i-test.true (sym c.belongs.ensures ∙ not-false _ c.if-not-belongs.false-raw)) ∙ omega arith
+
+pub returns : goal.returns
+returns c = sym (c.loop-i.invariant ∙ ap (λ n. c.loop-i.i + n) (run_past _ _ c.loop-i.i c.loop-i-test.false) ∙ omega arith)

@@ -1,0 +1,15 @@
+-- The loop: from the place on, the run ends where the run from the start does. Assumes nothing.
+use native.Mathlib.Omega.{arith}
+use mathlib.Core.Path.{◌≡◌, refl, ap, ◌∙◌}
+use Prim.Native.Nat.{◌+◌, ◌-◌}
+use lib.ListN.{length, drop}
+use borrow.Author.Tests.{not-false}
+use Rattle.lines.specs.declared.Run.TheVariants.{Blanks}
+use Rattle.lines.specs.Scan.{passes, run}
+use Rattle.lines.proofs.past_eights.Given as goal
+
+abbrev pub invariant-loop-i : goal.invariant-loop-i
+invariant-loop-i l = l.at + run (passes Blanks) (drop l.at l.s) ≡ l.i + run (passes Blanks) (drop l.i l.s)
+
+abbrev pub decreases-loop-i : goal.decreases-loop-i
+decreases-loop-i l = length l.s - l.i

@@ -1,0 +1,13 @@
+use native.Mathlib.Omega.{arith}
+use mathlib.Core.Path.{◌≡◌, sym, ◌∙◌}
+use Prim.Native.Nat.{◌+◌, ◌≤◌, ◌-◌}
+use lib.ListN.{length}
+use Rattle.lists.specs.Lists.{listed_at}
+use Rattle.lists.proofs.ListLaws.{merged, merged_none, turn_lost, turn_end, turn_more, on_the_way}
+use Rattle.lists.proofs.list_at.Given as goal
+
+abbrev pub invariant-loop-x : goal.invariant-loop-x
+invariant-loop-x l = (l.n + l.at ≤ l.i) × (merged l.s l.n l.m (listed_at l.line l.i) ≡ listed_at l.line l.at)
+
+abbrev pub decreases-loop-x : goal.decreases-loop-x
+decreases-loop-x l = length l.line - l.i

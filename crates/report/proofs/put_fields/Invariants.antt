@@ -1,0 +1,15 @@
+use native.Mathlib.Omega.{arith}
+use mathlib.Core.Path.{ap}
+use Prim.Native.Nat.{◌≤◌, ◌+◌, ◌*◌, ◌-◌}
+use lib.ListN.{length, take}
+use lib.Seq.{take_all}
+use Rattle.report.specs.Written.{Written, after_commas}
+use Rattle.report.proofs.Writing.{written_none, written_then, written_as}
+use Rattle.report.proofs.FieldsLaw.{after_next}
+use Rattle.report.proofs.put_fields.Given as goal
+
+abbrev pub invariant-loop-i : goal.invariant-loop-i
+invariant-loop-i l = (l.i ≤ length l.fields) × (l.k ≤ l.at + 11 * l.i) × Written l.initial.out l.at (after_commas (take l.i l.fields)) l.out l.k
+
+abbrev pub decreases-loop-i : goal.decreases-loop-i
+decreases-loop-i l = length l.fields - l.i
