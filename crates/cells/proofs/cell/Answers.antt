@@ -1,24 +1,20 @@
--- the cell that is read
 use borrow.Author.Rules.{rules, sfits_of}
-use lib.IntN.{ℤ, pos}
+use lib.IntN.{pos}
 use lib.ListN.{get_or}
 use Rattle.cells.specs.Cells.{cell_at}
 use Rattle.cells.proofs.Laws.{read_cast, read_num, read_neg, at_past}
 use Rattle.cells.proofs.cell.Goals as goal
 
-abbrev x : tie.Start → ℤ
-x c = get_or c.args.t.now c.args.i (pos 0)
-
 pub overflow_cast-result : goal.overflow_cast-result
-overflow_cast-result c = read_cast (x c) (sfits_of c.x-1.given) c.if-x-ge0.true
+overflow_cast-result c = read_cast (get_or c.args.t.now c.args.i (pos 0)) (sfits_of c.x-1.given) c.if-x-ge0.true
 
 pub returns-then-x-ge0 : goal.returns-then-x-ge0
 unfolding cell_at
-returns-then-x-ge0 c = read_num (x c) (sfits_of c.x-1.given) c.if-x-ge0.true
+returns-then-x-ge0 c = read_num (get_or c.args.t.now c.args.i (pos 0)) (sfits_of c.x-1.given) c.if-x-ge0.true
 
 pub returns-else-x-ge0 : goal.returns-else-x-ge0
 unfolding cell_at
-returns-else-x-ge0 c = read_neg (x c) (sfits_of c.x-1.given) c.if-x-ge0.false
+returns-else-x-ge0 c = read_neg (get_or c.args.t.now c.args.i (pos 0)) (sfits_of c.x-1.given) c.if-x-ge0.false
 
 pub returns-else-i-t : goal.returns-else-i-t
 unfolding cell_at

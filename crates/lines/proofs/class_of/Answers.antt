@@ -19,4 +19,4 @@ pub returns-in-4 : goal.returns-in-4
 returns-in-4 c = class_told _ c.ranks-ranks.ensures _ (search rules) Letter c.in-4.is
 
 pub returns-in_default : goal.returns-in_default
-returns-in_default c = let r = c.in_default.rest in class_rest _ c.ranks-ranks.ensures _ (search rules) r.0.0.0.0.1 r.0.0.0.1 r.0.0.1 r.0.1 r.1
+returns-in_default c = let r = c.in_default.in_default-own.rest in class_rest _ c.ranks-ranks.ensures _ (search rules) r.0.0.0.0.1 r.0.0.0.1 r.0.0.1 r.0.1 r.1
