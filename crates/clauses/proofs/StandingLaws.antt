@@ -96,6 +96,7 @@ in_map f (Memᴰ.head e) = Memᴰ.head (ap f e)
 in_map f (Memᴰ.tail m) = Memᴰ.tail (in_map f m)
 
 map_in : {A B : Type 0} (f : A → B) (y : B) (xs : List A) → In y (map f xs) → (x : A) × In x xs × (y ≡ f x)
+map_in f y [] m = elim m [ ]
 map_in f y (x ∷ xs) (Memᴰ.head e) = (x, Memᴰ.head refl, e)
 map_in f y (x ∷ xs) (Memᴰ.tail m) = let r = map_in f y xs m in (r.0, Memᴰ.tail r.1, r.2)
 

@@ -52,7 +52,7 @@ pub earlier_marks : (k : ℕ) (bs : List Bound) (u v : ℕ)
 unfolding mark_from
 earlier_marks k [] u v = refl
 earlier_marks k (b ∷ bs) u v =
-    ap₂ (λ x y. elim x as (λ _. Bool) [ true ↦ false | false ↦ elim y as (λ _. Bool) [ true ↦ is_in ws v | false ↦ earlier ws u v ] ])
+    ap₂ (λ (x : Bool) (y : Bool). elim x as (λ _. Bool) [ true ↦ false | false ↦ elim y as (λ _. Bool) [ true ↦ is_in ws v | false ↦ earlier ws u v ] ])
     (eqb_sym (bound_var b) v) (eqb_sym (bound_var b) u)
     ∙ go (eqb v (bound_var b)) (eqb u (bound_var b)) (earlier_marks (k + 1) bs u v)
   where

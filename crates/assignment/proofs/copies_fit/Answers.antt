@@ -15,9 +15,6 @@ use Rattle.assignment.proofs.copies_fit.Goals as goal
 pub loop-l-init : goal.loop-l-init
 loop-l-init c = (refl, c.requires.1, long_past _, refl)
 
-pub shape_of-sizes-then-x-eq0 : goal.shape_of-sizes-then-x-eq0
-shape_of-sizes-then-x-eq0 c = c.loop-l.invariant.0
-
 pub returns-then-x-eq0 : goal.returns-then-x-eq0
 returns-then-x-eq0 c = sym (c.loop-l.invariant.3 ∙ all_stop _ _ c.code-x.ensures.0 _ c.if-x-eq0.true)
 
@@ -35,9 +32,6 @@ loop-l-smaller c = let h = inside _ _ c.code-x.ensures.0 c.if-x-eq0.false in ome
 
 pub loop-l-preserved : goal.loop-l-preserved
 loop-l-preserved c = (c.is_part.auto.0 ∙ c.loop-l.invariant.0, c.is_part.ensures.1, c.length_next-long.ensures, c.loop-l.invariant.3 ∙ all_next _ _ c.code-x.ensures.0 _ c.if-x-eq0.false (copy_is _ _ _ _ _ _ c.annotation_at-a.ensures c.stands-e.ensures.0 c.length_next-long.ensures c.is_part.ensures.0 c.if-is_part.true))
-
-pub shape_of-sizes-else-is_part : goal.shape_of-sizes-else-is_part
-shape_of-sizes-else-is_part c = c.is_part.auto.0 ∙ c.loop-l.invariant.0
 
 pub returns-else-is_part : goal.returns-else-is_part
 returns-else-is_part c = sym (c.loop-l.invariant.3 ∙ all_fail _ _ c.code-x.ensures.0 _ c.if-x-eq0.false (copy_is _ _ _ _ _ _ c.annotation_at-a.ensures c.stands-e.ensures.0 c.length_next-long.ensures c.is_part.ensures.0 c.if-is_part.false))

@@ -24,8 +24,5 @@ loop-k-smaller c = omega (arith, c.loop-k-test.true)
 pub loop-k-preserved : goal.loop-k-preserved
 loop-k-preserved c = copying_more _ _ c.requires.0 c.loop-k.invariant c.loop-k-test.true c.put.ensures
 
-pub shape_of-table : goal.shape_of-table
-shape_of-table c = c.loop-k.invariant.long
-
 pub returns : goal.returns
 returns c = copying_end _ _ c.requires.0 c.loop-k.invariant c.loop-k-test.false

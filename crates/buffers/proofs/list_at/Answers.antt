@@ -10,14 +10,8 @@ use Rattle.buffers.proofs.list_at.Goals as goal
 pub loop-x-init : goal.loop-x-init
 loop-x-init c = (omega arith, merged_none _, keeping_start, refl)
 
-pub shape_of-buffer-in_default : goal.shape_of-buffer-in_default
-shape_of-buffer-in_default c = c.loop-x.invariant.3
-
 pub returns-in_default : goal.returns-in_default
 returns-in_default c = (turn_lost _ _ c.loop-x.i c.loop-x.s c.loop-x.n c.loop-x.m c.loop-x.invariant.1 (sym c.token.ensures ∙ c.in_default.is), keeping_lost c.loop-x.invariant.2 (sym c.token.ensures ∙ c.in_default.is))
-
-pub shape_of-buffer-then-x-eq0 : goal.shape_of-buffer-then-x-eq0
-shape_of-buffer-then-x-eq0 c = c.keep.auto.0 ∙ c.loop-x.invariant.3
 
 pub returns-then-x-eq0 : goal.returns-then-x-eq0
 returns-then-x-eq0 c = (turn_end _ _ c.loop-x.i c.loop-x.s c.loop-x.n c.loop-x.m c.loop-x.invariant.1 (sym c.token.ensures ∙ c.in-Of.is) c.if-x-eq0.true, keeping_end c.loop-x.invariant.2 (sym c.token.ensures ∙ c.in-Of.is) c.keep.ensures c.if-x-eq0.true)

@@ -40,26 +40,5 @@ loop-i-smaller c = omega (arith, c.loop-i-test.true)
 pub loop-i-preserved : goal.loop-i-preserved
 loop-i-preserved c = (going_more _ _ _ c.loop-i.from c.loop-i.i c.loop-i.k c.loop-i.at _ _ c.loop-i-test.true c.end_at-middle.ensures c.end_at-to.ensures c.kind_at-kind.ensures c.loop-i.invariant.0 c.check_one.ensures, omega (arith, c.loop-i-test.true))
 
-pub shape_of-prefix : goal.shape_of-prefix
-shape_of-prefix c = ap (λ (n : Places). n.prefix) (going_lengths c.loop-i.invariant.0)
-
-pub shape_of-matrix : goal.shape_of-matrix
-shape_of-matrix c = ap (λ (n : Places). n.matrix) (going_lengths c.loop-i.invariant.0)
-
-pub shape_of-map : goal.shape_of-map
-shape_of-map c = ap (λ (n : Places). n.map) (going_lengths c.loop-i.invariant.0)
-
-pub shape_of-proof : goal.shape_of-proof
-shape_of-proof c = ap (λ (n : Places). n.proof) (going_lengths c.loop-i.invariant.0)
-
-pub shape_of-marks : goal.shape_of-marks
-shape_of-marks c = ap (λ (n : Places). n.marks) (going_lengths c.loop-i.invariant.0)
-
-pub shape_of-values : goal.shape_of-values
-shape_of-values c = ap (λ (n : Places). n.values) (going_lengths c.loop-i.invariant.0)
-
-pub shape_of-out : goal.shape_of-out
-shape_of-out c = going_out c.loop-i.invariant.0
-
 pub returns : goal.returns
 returns c = going_end _ _ _ c.loop-i-test.false c.loop-i.invariant.0

@@ -9,8 +9,5 @@ loop-i-init c = partly_start _ _ _
 pub loop-i-preserved : goal.loop-i-preserved
 loop-i-preserved c = partly_next c.loop-i-test.true c.put.ensures c.loop-i.invariant
 
-pub shape_of-out : goal.shape_of-out
-shape_of-out c = c.loop-i.invariant.same
-
 pub returns : goal.returns
 returns c = partly_end c.loop-i-test.false c.loop-i.invariant

@@ -24,8 +24,5 @@ loop-place-smaller c = omega (arith, c.loop-place-test.true, c.candidate-place-e
 pub loop-place-preserved : goal.loop-place-preserved
 loop-place-preserved c = (c.loop-place.invariant.0, λ l. taking_pass _ _ _ _ _ _ _ _ _ l refl _ (taking_no _ _ _ _ _ _ c.loop-place-test.true _ (c.is_there.ensures l) _ (c.loop-place.invariant.1 l) c.if-is_there.false) _ c.candidate-place-else-is_there.ensures.0 c.candidate-place-else-is_there.ensures.1)
 
-pub shape_of-marks : goal.shape_of-marks
-shape_of-marks c = c.loop-place.invariant.0
-
 pub returns : goal.returns
 returns c = λ l. taking_end _ _ _ _ _ _ _ (c.loop-place.invariant.1 l) c.loop-place-test.false

@@ -17,12 +17,6 @@ loop-i-init c = (omega arith, refl, refl, λ u h. (u, any_start (expands_at _ _ 
 pub overflow_add-i : goal.overflow_add-i
 overflow_add-i c = omega arith
 
-pub shape_of-seen-then-expands : goal.shape_of-seen-then-expands
-shape_of-seen-then-expands c = omega (arith, c.expands.auto, c.loop-i.invariant.1)
-
-pub shape_of-held-then-expands : goal.shape_of-held-then-expands
-shape_of-held-then-expands c = omega (arith, c.expands.auto, c.loop-i.invariant.2)
-
 pub returns-then-expands : goal.returns-then-expands
 returns-then-expands c = λ u h. let v = c.loop-i.invariant.3 u h in let x = c.expands.ensures v.0 (omega (arith, h, c.loop-i.invariant.2)) in (any_found (expands_at _ _ _ _ _ _) _ _ _ _ v.1 c.loop-i-test.true x.0 c.place-k.ensures c.if-expands.true, x.1)
 
@@ -38,12 +32,6 @@ loop-i-smaller c = omega arith
 pub loop-i-preserved : goal.loop-i-preserved
 unfolding expands_at
 loop-i-preserved c = (omega arith, c.loop-i.invariant.1, c.loop-i.invariant.2, λ u h. let v = c.loop-i.invariant.3 u h in (v.0, any_next (expands_at _ _ _ _ _ _) _ _ _ _ v.1 c.loop-i-test.true (expands_no _ _ _ _ _ (first_unfit _ _ _ _ (sym c.first_in_clause.ensures ∙ c.if-first_in_clause.false))) c.place-k.ensures refl))
-
-pub shape_of-seen : goal.shape_of-seen
-shape_of-seen c = c.loop-i.invariant.1
-
-pub shape_of-held : goal.shape_of-held
-shape_of-held c = c.loop-i.invariant.2
 
 pub returns : goal.returns
 returns c = λ u h. let v = c.loop-i.invariant.3 u h in (any_done (expands_at _ _ _ _ _ _) _ _ _ _ v.1 c.loop-i-test.false, v.0)

@@ -9,21 +9,12 @@ use Rattle.formula.proofs.put_binding.Goals as goal
 pub loop-x-init : goal.loop-x-init
 loop-x-init c = marking_start
 
-pub shape_of-prefix-in_default : goal.shape_of-prefix-in_default
-shape_of-prefix-in_default c = c.loop-x.invariant.long
-
 pub returns-in_default : goal.returns-in_default
 returns-in_default c = let l = c.loop-x in marking_lost l.invariant (sym c.literal_at.ensures ∙ c.in_default.is)
-
-pub shape_of-prefix-then-x-eq0 : goal.shape_of-prefix-then-x-eq0
-shape_of-prefix-then-x-eq0 c = c.loop-x.invariant.long
 
 pub returns-then-x-eq0 : goal.returns-then-x-eq0
 returns-then-x-eq0 c = let l = c.loop-x in
     marking_end l.invariant (sym c.literal_at.ensures ∙ c.in-Of.is) c.if-x-eq0.true
-
-pub shape_of-prefix-then-word_of-ne0 : goal.shape_of-prefix-then-word_of-ne0
-shape_of-prefix-then-word_of-ne0 c = c.loop-x.invariant.long
 
 pub returns-then-word_of-ne0 : goal.returns-then-word_of-ne0
 returns-then-word_of-ne0 c = let l = c.loop-x in

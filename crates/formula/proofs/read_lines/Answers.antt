@@ -17,25 +17,9 @@ slice_bounds-read_line-end c = let l = c.loop-t in line_ends l.invariant c.line_
 pub read_line-requires : goal.read_line-requires
 read_line-requires c = going_able c.loop-t.invariant c.line_end-e.ensures c.requires
 
-pub shape_of-prefix-in-Refuse : goal.shape_of-prefix-in-Refuse
-shape_of-prefix-in-Refuse c = let l = c.loop-t in
-    c.read_line.auto.1.1.0 ∙ (going_long l.invariant).0
-
-pub shape_of-matrix-in-Refuse : goal.shape_of-matrix-in-Refuse
-shape_of-matrix-in-Refuse c = let l = c.loop-t in
-    c.read_line.auto.1.1.1.0 ∙ (going_long l.invariant).1
-
 pub returns-in-Refuse : goal.returns-in-Refuse
 returns-in-Refuse c = let l = c.loop-t in
     going_refused l.invariant c.line_end-e.ensures c.read_line.ensures c.in-Refuse.is
-
-pub shape_of-prefix-then-formula-e : goal.shape_of-prefix-then-formula-e
-shape_of-prefix-then-formula-e c = let l = c.loop-t in
-    c.read_line.auto.1.1.0 ∙ (going_long l.invariant).0
-
-pub shape_of-matrix-then-formula-e : goal.shape_of-matrix-then-formula-e
-shape_of-matrix-then-formula-e c = let l = c.loop-t in
-    c.read_line.auto.1.1.1.0 ∙ (going_long l.invariant).1
 
 pub returns-then-formula-e : goal.returns-then-formula-e
 returns-then-formula-e c = let l = c.loop-t in

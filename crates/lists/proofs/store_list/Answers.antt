@@ -9,15 +9,9 @@ use Rattle.lists.proofs.store_list.Goals as goal
 pub loop-x-init : goal.loop-x-init
 loop-x-init c = storing_start
 
-pub shape_of-table-in_default : goal.shape_of-table-in_default
-shape_of-table-in_default c = c.loop-x.invariant.long
-
 pub returns-in_default : goal.returns-in_default
 returns-in_default c = let l = c.loop-x in
     storing_lost l.invariant (sym c.literal_at.ensures ∙ c.in_default.is)
-
-pub shape_of-table-then-x-eq0 : goal.shape_of-table-then-x-eq0
-shape_of-table-then-x-eq0 c = c.put.auto.0 ∙ c.loop-x.invariant.long
 
 pub returns-then-x-eq0 : goal.returns-then-x-eq0
 returns-then-x-eq0 c = let l = c.loop-x in

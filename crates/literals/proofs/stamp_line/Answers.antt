@@ -14,9 +14,6 @@ use Rattle.literals.proofs.stamp_line.Goals as goal
 pub loop-l-init : goal.loop-l-init
 loop-l-init c = (refl, refl, refl)
 
-pub shape_of-seen-then-x-eq0 : goal.shape_of-seen-then-x-eq0
-shape_of-seen-then-x-eq0 c = c.loop-l.invariant.2
-
 pub returns-then-x-eq0 : goal.returns-then-x-eq0
 returns-then-x-eq0 c = (
   sym (all_stop _ _ c.code-x.ensures.0 _ c.if-x-eq0.true) ∙ c.loop-l.invariant.0,
@@ -33,9 +30,6 @@ pub loop-l-preserved : goal.loop-l-preserved
 loop-l-preserved c = let l = c.loop-l in
     let h = stamped_next _ _ _ _ _ c.code-x.ensures.0 _ c.if-x-eq0.false c.stamp_literal.ensures.0 c.stamp_literal.ensures.1 c.if-stamp_literal.true in
     (h.0 ∙ l.invariant.0, h.1 ∙ l.invariant.1, omega arith)
-
-pub shape_of-seen-else-stamp_literal : goal.shape_of-seen-else-stamp_literal
-shape_of-seen-else-stamp_literal c = omega arith
 
 pub returns-else-stamp_literal : goal.returns-else-stamp_literal
 returns-else-stamp_literal c = let l = c.loop-l in

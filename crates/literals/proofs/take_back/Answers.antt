@@ -15,9 +15,6 @@ use Rattle.literals.proofs.take_back.Goals as goal
 pub loop-l-init : goal.loop-l-init
 loop-l-init c = (refl, refl, refl)
 
-pub shape_of-seen-then-y-eq0 : goal.shape_of-seen-then-y-eq0
-shape_of-seen-then-y-eq0 c = c.loop-l.invariant.2
-
 pub returns-then-y-eq0 : goal.returns-then-y-eq0
 returns-then-y-eq0 c = let h = back_stop _ _ _ _ _ c.code-y.ensures.0 _ _ c.if-y-eq0.true in
     (sym h.0 ∙ c.loop-l.invariant.0, sym h.1 ∙ c.loop-l.invariant.1)

@@ -8,8 +8,5 @@ loop-i-init c = zeroing_start _ _
 pub loop-i-preserved : goal.loop-i-preserved
 loop-i-preserved c = zeroing_more _ _ _ _ c.loop-i.invariant c.loop-i-test.true c.put.ensures
 
-pub shape_of-t : goal.shape_of-t
-shape_of-t c = c.loop-i.invariant.long
-
 pub returns : goal.returns
 returns c = zeroing_end _ _ _ _ c.loop-i.invariant c.loop-i-test.false

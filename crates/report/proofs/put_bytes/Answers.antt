@@ -12,8 +12,5 @@ loop-i-init c = (omega arith, written_none _ 0)
 pub loop-i-preserved : goal.loop-i-preserved
 loop-i-preserved c = (omega arith, written_next _ _ c.loop-i-test.true (omega arith) c.loop-i.invariant.1)
 
-pub shape_of-out : goal.shape_of-out
-shape_of-out c = c.loop-i.invariant.1.same
-
 pub returns : goal.returns
 returns c = written_as (take_all _ _ c.loop-i-test.false) c.loop-i.invariant.1

@@ -22,8 +22,5 @@ loop-i-preserved c = (
       written_as (after_next _ c.loop-i.i c.loop-i-test.true) (written_then c.loop-i.invariant.2 c.put_field-k.ensures.0),
     )
 
-pub shape_of-out : goal.shape_of-out
-shape_of-out c = c.loop-i.invariant.2.same
-
 pub returns : goal.returns
 returns c = (written_as (ap after_commas (take_all _ _ c.loop-i-test.false)) c.loop-i.invariant.2, omega arith)

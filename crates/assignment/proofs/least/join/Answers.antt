@@ -11,12 +11,6 @@ use Rattle.assignment.proofs.least.join.Goals as goal
 pub loop-n-init : goal.loop-n-init
 loop-n-init c = (c.requires, refl, refl, λ h. (h, refl))
 
-pub shape_of-seen-then-y-eq0 : goal.shape_of-seen-then-y-eq0
-shape_of-seen-then-y-eq0 c = c.loop-n.invariant.1
-
-pub shape_of-held-then-y-eq0 : goal.shape_of-held-then-y-eq0
-shape_of-held-then-y-eq0 c = c.loop-n.invariant.2
-
 pub returns-then-y-eq0 : goal.returns-then-y-eq0
 returns-then-y-eq0 c = (c.loop-n.invariant.0, λ h. let v = c.loop-n.invariant.3 h in record { held = v.0; codes = join_stop _ _ _ _ c.code-y.ensures.0 v.1 c.if-y-eq0.true })
 

@@ -13,12 +13,6 @@ use Rattle.assignment.proofs.least.join_annotations.Goals as goal
 pub loop-n-init : goal.loop-n-init
 loop-n-init c = (c.requires, refl, refl, λ h. (h, join_past _ _, refl))
 
-pub shape_of-seen-then-x-eq0 : goal.shape_of-seen-then-x-eq0
-shape_of-seen-then-x-eq0 c = c.loop-n.invariant.1
-
-pub shape_of-held-then-x-eq0 : goal.shape_of-held-then-x-eq0
-shape_of-held-then-x-eq0 c = c.loop-n.invariant.2
-
 pub returns-then-x-eq0 : goal.returns-then-x-eq0
 returns-then-x-eq0 c = (c.loop-n.invariant.0, λ h. let v = c.loop-n.invariant.3 h in record { held = v.0; codes = notes_stop _ _ _ _ _ _ c.code-x.ensures.0 v.2 c.if-x-eq0.true })
 

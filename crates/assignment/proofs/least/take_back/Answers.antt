@@ -24,8 +24,5 @@ loop-i-smaller c = omega arith
 pub loop-i-preserved : goal.loop-i-preserved
 loop-i-preserved c = (c.loop-i.invariant.0, λ h. left_out _ _ _ (c.loop-i.invariant.1 h) c.loop-i-test.true c.code_at-y.ensures.0 c.if-y-seen.false)
 
-pub shape_of-seen : goal.shape_of-seen
-shape_of-seen c = c.loop-i.invariant.0
-
 pub returns : goal.returns
 returns c = λ h. left_none _ _ _ (c.loop-i.invariant.1 h) c.loop-i-test.false

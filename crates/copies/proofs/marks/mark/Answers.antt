@@ -11,9 +11,6 @@ use Rattle.copies.proofs.marks.mark.Goals as goal
 pub loop-a-init : goal.loop-a-init
 loop-a-init c = (refl, refl)
 
-pub shape_of-seen-then-y-eq0 : goal.shape_of-seen-then-y-eq0
-shape_of-seen-then-y-eq0 c = c.loop-a.invariant.1
-
 pub returns-then-y-eq0 : goal.returns-then-y-eq0
 returns-then-y-eq0 c = sym (marks_stop _ _ _ c.code-y.ensures.0 c.if-y-eq0.true) ∙ c.loop-a.invariant.0
 

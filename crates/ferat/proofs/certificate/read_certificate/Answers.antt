@@ -26,32 +26,8 @@ enum_known-t c = search c
 pub enum_known-k : goal.enum_known-k
 enum_known-k c = search c
 
-pub shape_of-map-in-Refuse : goal.shape_of-map-in-Refuse
-shape_of-map-in-Refuse c = c.certificate_line.auto.1.1.1.1.0 ∙ c.loop-t.invariant.long.0
-
-pub shape_of-proof-in-Refuse : goal.shape_of-proof-in-Refuse
-shape_of-proof-in-Refuse c = c.certificate_line.auto.1.1.1.1.1.0 ∙ c.loop-t.invariant.long.1
-
-pub shape_of-marks-in-Refuse : goal.shape_of-marks-in-Refuse
-shape_of-marks-in-Refuse c = c.certificate_line.auto.1.1.1.1.1.1.0 ∙ c.loop-t.invariant.long.2
-
-pub shape_of-values-in-Refuse : goal.shape_of-values-in-Refuse
-shape_of-values-in-Refuse c = c.certificate_line.auto.1.1.1.1.1.1.1.0 ∙ c.loop-t.invariant.long.3
-
 pub returns-in-Refuse : goal.returns-in-Refuse
 returns-in-Refuse c = midway_refused ferat_apt c.loop-t.invariant c.line_end-e.ensures c.requires _ _ c.certificate_line.ensures _ (ap answer_of c.in-Refuse.is)
-
-pub shape_of-map-then-certificate-e : goal.shape_of-map-then-certificate-e
-shape_of-map-then-certificate-e c = c.certificate_line.auto.1.1.1.1.0 ∙ c.loop-t.invariant.long.0
-
-pub shape_of-proof-then-certificate-e : goal.shape_of-proof-then-certificate-e
-shape_of-proof-then-certificate-e c = c.certificate_line.auto.1.1.1.1.1.0 ∙ c.loop-t.invariant.long.1
-
-pub shape_of-marks-then-certificate-e : goal.shape_of-marks-then-certificate-e
-shape_of-marks-then-certificate-e c = c.certificate_line.auto.1.1.1.1.1.1.0 ∙ c.loop-t.invariant.long.2
-
-pub shape_of-values-then-certificate-e : goal.shape_of-values-then-certificate-e
-shape_of-values-then-certificate-e c = c.certificate_line.auto.1.1.1.1.1.1.1.0 ∙ c.loop-t.invariant.long.3
 
 pub returns-then-certificate-e : goal.returns-then-certificate-e
 returns-then-certificate-e c = midway_last ferat_apt c.loop-t.invariant c.line_end-e.ensures c.requires _ _ c.certificate_line.ensures _ (ap answer_of c.in-Next.is) c.if-certificate-e.true c.end_broken.result (ended_is c.end_broken.ensures) c.at_end.ensures

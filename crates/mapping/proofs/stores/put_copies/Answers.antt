@@ -8,21 +8,9 @@ use Rattle.mapping.proofs.stores.put_copies.Goals as goal
 pub loop-n-init : goal.loop-n-init
 loop-n-init c = copying_start _ _ _ _ _ _ _
 
-pub shape_of-map-in-End : goal.shape_of-map-in-End
-shape_of-map-in-End c = c.loop-n.invariant.long
-
-pub shape_of-values-in-End : goal.shape_of-values-in-End
-shape_of-values-in-End c = c.loop-n.invariant.wide
-
 pub returns-in-End : goal.returns-in-End
 returns-in-End c = let l = c.loop-n in
     copying_end _ _ _ _ _ _ _ l.invariant (item_told _ l.i c.in-End.is c.item_at.ensures)
-
-pub shape_of-map-in-End-item_at : goal.shape_of-map-in-End-item_at
-shape_of-map-in-End-item_at c = c.loop-n.invariant.long
-
-pub shape_of-values-in-End-item_at : goal.shape_of-values-in-End-item_at
-shape_of-values-in-End-item_at c = c.loop-n.invariant.wide
 
 pub returns-in-End-item_at : goal.returns-in-End-item_at
 returns-in-End-item_at c = let l = c.loop-n in
