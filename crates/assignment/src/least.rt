@@ -69,7 +69,7 @@ fn add(seen: &mut [u8], held: &mut [u16], n: usize, y: usize) -> usize
 fn join(seen: &mut [u8], held: &mut [u16], n: usize, map: &[i32], a: usize) -> usize
     requires { n ≤ 8194 }
     ensures { (result ≤ 8194) × (Held seen.old held.old n
-        → Holds seen.new held.new result (joined (listed held.old n) (list_in map.entry a))) }
+        → Holds seen.new held.new result (joined (listed held.old n) (list_in map.now a))) }
 {
     let mut k = n;
     let mut i = a;
@@ -94,8 +94,8 @@ fn join_next(
 ) -> usize
     requires { n ≤ 8194 }
     ensures { (result ≤ 8194) × (Held seen.old held.old n
-        → joined (listed held.old n) (list_in map.entry last) ≡ listed held.old n
-        → Holds seen.new held.new result (joined (listed held.old n) (list_in map.entry a))) }
+        → joined (listed held.old n) (list_in map.now last) ≡ listed held.old n
+        → Holds seen.new held.new result (joined (listed held.old n) (list_in map.now a))) }
 {
     if a == last {
         return n;
@@ -115,7 +115,7 @@ pub fn join_annotations(
 ) -> usize
     requires { n ≤ 8194 }
     ensures { (result ≤ 8194) × (Held seen.old held.old n → Holds seen.new held.new result
-        (joined (listed held.old n) (annotations_of (annotation_in values.entry map.entry) (list_in proof.entry l)))) }
+        (joined (listed held.old n) (annotations_of (annotation_in values.now map.now) (list_in proof.now l)))) }
 {
     let mut k = n;
     let mut last = map.len();
@@ -136,7 +136,7 @@ pub fn join_annotations(
 fn join_negation(seen: &mut [u8], held: &mut [u16], n: usize, prefix: &[i32], y: usize) -> usize
     requires { (n ≤ 8194) × (y < 65536) }
     ensures { (result ≤ 8194) × (Held seen.old held.old n → Holds seen.new held.new result
-        (joined (listed held.old n) (negations (words prefix.entry) (y ∷ [])))) }
+        (joined (listed held.old n) (negations (words prefix.now) (y ∷ [])))) }
 {
     let z = negated(y);
     if prefix::universal(prefix, y / 2) {
@@ -156,7 +156,7 @@ pub fn join_negations(
 ) -> usize
     requires { n ≤ 8194 }
     ensures { (result ≤ 8194) × (Held seen.old held.old n → Holds seen.new held.new result
-        (joined (listed held.old n) (negations (words prefix.entry) (list_in matrix.entry c)))) }
+        (joined (listed held.old n) (negations (words prefix.now) (list_in matrix.now c)))) }
 {
     let mut k = n;
     let mut i = c;

@@ -20,7 +20,7 @@ const LONG: usize = 64;
 // k, and one more if e depends on literal y.
 fn tally(prefix: &[i32], e: usize, y: usize, k: usize) -> usize
     requires { k < 65536 }
-    ensures { result ≡ k + part_size (words prefix.entry) (y ∷ []) e }
+    ensures { result ≡ k + part_size (words prefix.now) (y ∷ []) e }
 {
     if prefix::depends(prefix, e, y / 2) {
         return k + 1;
@@ -31,7 +31,7 @@ fn tally(prefix: &[i32], e: usize, y: usize, k: usize) -> usize
 // How many literals of t are of universals that e depends on; t is listed in the first n places.
 fn part_size(prefix: &[i32], held: &[u16], n: usize, e: usize) -> usize
     requires { n ≤ 8194 }
-    ensures { (result ≡ part_size (words prefix.entry) (listed held.now n) e) × (result ≤ 8194) }
+    ensures { (result ≡ part_size (words prefix.now) (listed held.now n) e) × (result ≤ 8194) }
 {
     let mut k: usize = 0;
     let mut i = n;
@@ -45,8 +45,8 @@ fn part_size(prefix: &[i32], held: &[u16], n: usize, e: usize) -> usize
 // The same, with one more than the size noted for each existential that has a place in `sizes`; 0 is noted where it was not counted yet.
 fn size_of(sizes: &mut [u16], prefix: &[i32], held: &[u16], n: usize, e: usize) -> usize
     requires { (n ≤ 8194) × Noted (part_size (words prefix) (listed held.now n)) sizes.old }
-    ensures { (result ≡ part_size (words prefix.entry) (listed held.now n) e)
-        × Noted (part_size (words prefix.entry) (listed held.now n)) sizes.new }
+    ensures { (result ≡ part_size (words prefix.now) (listed held.now n) e)
+        × Noted (part_size (words prefix.now) (listed held.now n)) sizes.new }
 {
     if e < sizes.len() {
         let k = least::wide(sizes[e]);
@@ -63,8 +63,8 @@ fn size_of(sizes: &mut [u16], prefix: &[i32], held: &[u16], n: usize, e: usize) 
 // Whether `long` literals within e's part of t are all of it.
 fn is_part(sizes: &mut [u16], prefix: &[i32], held: &[u16], n: usize, e: usize, long: usize) -> bool
     requires { (n ≤ 8194) × Noted (part_size (words prefix) (listed held.now n)) sizes.old }
-    ensures { (result ≡ is_part (words prefix.entry) (listed held.now n) e long)
-        × Noted (part_size (words prefix.entry) (listed held.now n)) sizes.new }
+    ensures { (result ≡ is_part (words prefix.now) (listed held.now n) e long)
+        × Noted (part_size (words prefix.now) (listed held.now n)) sizes.new }
 {
     if long == n {
         return true;
@@ -74,7 +74,7 @@ fn is_part(sizes: &mut [u16], prefix: &[i32], held: &[u16], n: usize, e: usize, 
 
 // How many literals there are from place a of the map on.
 fn length_at(map: &[i32], a: usize) -> usize
-    ensures { result ≡ length (list_in map.entry a) }
+    ensures { result ≡ length (list_in map.now a) }
 {
     let mut i = a;
     loop {
@@ -89,7 +89,7 @@ fn length_at(map: &[i32], a: usize) -> usize
 // The same where there are `long` from place `last` on: copies of one mapping line share the place of their annotation.
 fn length_next(map: &[i32], last: usize, long: usize, a: usize) -> usize
     requires { long ≡ length (list_in map last) }
-    ensures { result ≡ length (list_in map.entry a) }
+    ensures { result ≡ length (list_in map.now a) }
 {
     if a == last {
         return long;
@@ -109,8 +109,8 @@ fn copies_fit(
     n: usize,
 ) -> bool
     requires { (n ≤ 8194) × Noted (part_size (words prefix) (listed held.now n)) sizes.old }
-    ensures { result ≡ all (copy_fits (words prefix.entry) (stands_in values.entry map.entry)
-        (annotation_in values.entry map.entry) (listed held.now n)) (list_in proof.entry l) }
+    ensures { result ≡ all (copy_fits (words prefix.now) (stands_in values.now map.now)
+        (annotation_in values.now map.now) (listed held.now n)) (list_in proof.now l) }
 {
     let mut last = map.len();
     let mut long: usize = 0;
@@ -146,8 +146,8 @@ fn fit_least(
 ) -> bool
     requires { n ≤ 8194 }
     ensures { Held seen.now held.now n → result ≡ cond (apart (listed held.now n))
-        (all (copy_fits (words prefix.entry) (stands_in values.entry map.entry)
-        (annotation_in values.entry map.entry) (listed held.now n)) (list_in proof.entry l)) false }
+        (all (copy_fits (words prefix.now) (stands_in values.now map.now)
+        (annotation_in values.now map.now) (listed held.now n)) (list_in proof.now l)) false }
 {
     if least::one_signed(seen, held, n) {
         if size < LONG {
@@ -175,8 +175,8 @@ pub fn annotations_fit(
     held: &mut [u16],
 ) -> bool
     ensures { Unmarked seen.old → 8194 ≤ length held.old
-        → (result ≡ annotations_fit (words prefix.entry) (stands_in values.entry map.entry)
-        (annotation_in values.entry map.entry) (list_in proof.entry l) (list_in matrix.entry c))
+        → (result ≡ annotations_fit (words prefix.now) (stands_in values.now map.now)
+        (annotation_in values.now map.now) (list_in proof.now l) (list_in matrix.now c))
         × Unmarked seen.new }
 {
     let k = least::join_negations(seen, held, 0, prefix, matrix, c);

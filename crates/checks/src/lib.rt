@@ -79,8 +79,8 @@ fn check_kind(
     values: &mut [i32],
 ) -> Ran
     ensures { RanAs kind formula.now certificate.now
-        (six prefix.entry matrix.entry map.entry proof.entry marks.entry values.entry) result
-        (six prefix.exit matrix.exit map.exit proof.exit marks.exit values.exit) }
+        (six prefix.old matrix.old map.old proof.old marks.old values.old) result
+        (six prefix.new matrix.new map.new proof.new marks.new values.new) }
 {
     if kind == FERAT {
         return Ran::With(ferat::check(
@@ -137,8 +137,8 @@ fn check_one(
 )
     requires { (from ≤ middle) × (middle ≤ to) × (to ≤ length bytes.now) × (at + 7 < 2 ^ 64) }
     ensures { One bytes.now from middle to kind
-        (six prefix.entry matrix.entry map.entry proof.entry marks.entry values.entry) out.old at
-        (six prefix.exit matrix.exit map.exit proof.exit marks.exit values.exit) out.new }
+        (six prefix.old matrix.old map.old proof.old marks.old values.old) out.old at
+        (six prefix.new matrix.new map.new proof.new marks.new values.new) out.new }
 {
     let r = check_kind(
         kind,
@@ -169,8 +169,8 @@ pub fn check_all(
     out: &mut [u32],
 )
     ensures { CheckedAll bytes.now ends.now kinds.now
-        (six prefix.entry matrix.entry map.entry proof.entry marks.entry values.entry) out.old
-        (six prefix.exit matrix.exit map.exit proof.exit marks.exit values.exit) out.new }
+        (six prefix.old matrix.old map.old proof.old marks.old values.old) out.old
+        (six prefix.new matrix.new map.new proof.new marks.new values.new) out.new }
 {
     let mut from = 0;
     let mut i = 0;

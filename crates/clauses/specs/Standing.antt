@@ -1,6 +1,5 @@
 -- How clauses stand in the proof and marks tables, and the list of the standing ones. Assumes nothing.
 use Rattle.std.specs.Prelude.{◌≡◌, Bool, false, not, cond, ◌&&◌, List, [], ◌∷◌, ◌++◌, map, ℕ, zero, suc, ◌+◌, ◌-◌, ◌/◌, ◌%◌, ◌<◌, ◌≤◌, eqb, leb, ltb, ℤ, pos, length, set, take}
-use Rattle.std.specs.Borrow.{Bor}
 use Rattle.lines.specs.Lists.{any, is_empty}
 use Rattle.cells.specs.Cells.{cell_at, code_at, list_at, Kept}
 use Rattle.rules.specs.Literals.{Lits}
@@ -119,14 +118,14 @@ abbrev pub empty_at : List ℤ → List ℤ → ℕ → Bool
 empty_at t ms k = stands t ms k && is_empty (clause_at t ms k)
 
 -- AS THE REFERENCES OF A CALL SHOW THEM
-abbrev pub stands_in : Bor (List ℤ) → Bor (List ℤ) → ℕ → Bool
-stands_in t ms k = stands t.now ms.now k
+abbrev pub stands_in : List ℤ → List ℤ → ℕ → Bool
+stands_in t ms k = stands t ms k
 
-abbrev pub clause_in : Bor (List ℤ) → Bor (List ℤ) → ℕ → List ℕ
-clause_in t ms k = clause_at t.now ms.now k
+abbrev pub clause_in : List ℤ → List ℤ → ℕ → List ℕ
+clause_in t ms k = clause_at t ms k
 
-abbrev pub standing_in : Bor (List ℤ) → Bor (List ℤ) → ℕ → List (List ℕ)
-standing_in t ms n = standing t.now ms.now n
+abbrev pub standing_in : List ℤ → List ℤ → ℕ → List (List ℕ)
+standing_in t ms n = standing t ms n
 
-abbrev pub literals_in : Bor (List ℤ) → Cursor → List ℕ
-literals_in t c = literals_from t.now c
+abbrev pub literals_in : List ℤ → Cursor → List ℕ
+literals_in t c = literals_from t c

@@ -39,14 +39,14 @@ pub fn places(s: Store) -> usize
 
 // Whether a clause stands at place k.
 pub fn stands(table: &[i32], marks: &[i32], k: usize) -> bool
-    ensures { result ≡ stands_in table.entry marks.entry k }
+    ensures { result ≡ stands_in table.now marks.now k }
 {
     cell(marks, k) % 2 != 0
 }
 
 // The clause at place k.
 pub fn clause(table: &[i32], marks: &[i32], k: usize) -> Cursor
-    ensures { literals_in table.entry result ≡ clause_in table.entry marks.entry k }
+    ensures { literals_in table.now result ≡ clause_in table.now marks.now k }
 {
     Cursor {
         at: wide(cell(marks, k) / 2),
@@ -55,7 +55,7 @@ pub fn clause(table: &[i32], marks: &[i32], k: usize) -> Cursor
 
 // A clause without literals.
 pub fn none(table: &[i32]) -> Cursor
-    ensures { literals_in table.entry result ≡ [] }
+    ensures { literals_in table.now result ≡ [] }
 {
     Cursor { at: table.len() }
 }
@@ -79,7 +79,7 @@ pub fn after(table: &[i32], c: Cursor) -> Cursor
 
 // Whether a clause holds the literal l.
 pub fn holds(table: &[i32], start: Cursor, l: u32) -> bool
-    ensures { result ≡ is_in (literals_in table.entry start) l }
+    ensures { result ≡ is_in (literals_in table.now start) l }
 {
     let mut i = start;
     loop {
@@ -163,7 +163,7 @@ fn empty_at(table: &[i32], marks: &[i32], k: usize) -> bool
 
 // Whether an empty clause stands at a place below n.
 pub fn empty_stands(table: &[i32], marks: &[i32], n: usize) -> bool
-    ensures { result ≡ has_empty (standing_in table.entry marks.entry n) }
+    ensures { result ≡ has_empty (standing_in table.now marks.now n) }
 {
     let mut k = 0;
     while k < n {

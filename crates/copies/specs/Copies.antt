@@ -1,6 +1,5 @@
 -- What the values and the map say of a copy. Assumes nothing.
 use Rattle.std.specs.Prelude.{List, map, ℕ, ◌+◌, ◌*◌, ◌/◌, ◌%◌, ℤ}
-use Rattle.std.specs.Borrow.{Bor}
 use Rattle.cells.specs.Cells.{cell_at, list_at}
 use Rattle.prefix.specs.Prefix.{entry}
 
@@ -23,14 +22,14 @@ unfoldable pub images_of : (ℕ → ℕ) → List ℕ → List ℕ
 images_of st ls = map (image_of st) ls
 
 -- THE SAME OF LENT TABLES, for contracts
-abbrev pub words : Bor (List ℤ) → ℕ → ℕ
-words prefix = entry prefix.now
+abbrev pub words : List ℤ → ℕ → ℕ
+words prefix = entry prefix
 
-abbrev pub stands_in : Bor (List ℤ) → Bor (List ℤ) → ℕ → ℕ
-stands_in values maps = stands_of values.now maps.now
+abbrev pub stands_in : List ℤ → List ℤ → ℕ → ℕ
+stands_in values maps = stands_of values maps
 
-abbrev pub annotation_in : Bor (List ℤ) → Bor (List ℤ) → ℕ → List ℕ
-annotation_in values maps = annotation_of values.now maps.now
+abbrev pub annotation_in : List ℤ → List ℤ → ℕ → List ℕ
+annotation_in values maps = annotation_of values maps
 
-abbrev pub list_in : Bor (List ℤ) → ℕ → List ℕ
-list_in t i = list_at t.now i
+abbrev pub list_in : List ℤ → ℕ → List ℕ
+list_in t i = list_at t i

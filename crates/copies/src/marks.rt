@@ -20,7 +20,7 @@ fn mark_one(seen: &mut [u8], y: usize)
 
 // Marks the codes from place a on.
 pub fn mark(seen: &mut [u8], t: &[i32], a: usize)
-    ensures { seen.new ≡ marks (list_in t.entry a) seen.old }
+    ensures { seen.new ≡ marks (list_in t.now a) seen.old }
 {
     let mut i = a;
     loop {
@@ -35,7 +35,7 @@ pub fn mark(seen: &mut [u8], t: &[i32], a: usize)
 
 // Whether y is among the codes from place a on, without marks.
 pub fn has(t: &[i32], a: usize, y: usize) -> bool
-    ensures { result ≡ is_in (list_in t.entry a) y }
+    ensures { result ≡ is_in (list_in t.now a) y }
 {
     let mut i = a;
     loop {

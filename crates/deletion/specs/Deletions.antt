@@ -1,6 +1,5 @@
 -- What the contracts of deletions say. Assumes nothing.
 use Rattle.std.specs.Prelude.{◌≡◌, Bool, true, false, ◌||◌, List, map, ℕ, ◌<◌, ◌≤◌, eqb, ℤ, get_or, take}
-use Rattle.std.specs.Borrow.{Bor}
 use Rattle.cells.specs.Cells.{Kept}
 use Rattle.lines.specs.Lists.{all, any}
 use Rattle.rules.specs.Basics.{is_in, without_first}
@@ -39,14 +38,14 @@ pub record Deleted (c : List ℕ) (t ms ms' : List ℤ) (count : ℕ) (r : Bool)
   pub standing_then : literals (standing t ms' count) ≡ without_first (same_set (map lit_of c)) (literals (standing t ms count))
 
 -- AS THE REFERENCES OF A CALL SHOW THEM
-abbrev pub ListedIn : Bor (List ℕ) → Bor (List ℕ) → ℕ → Type 0
-ListedIn f t n = Listed f.now t.now n
+abbrev pub ListedIn : List ℕ → List ℕ → ℕ → Type 0
+ListedIn f t n = Listed f t n
 
-abbrev pub list_in : Bor (List ℕ) → ℕ → List ℕ
-list_in t n = take n t.now
+abbrev pub list_in : List ℕ → ℕ → List ℕ
+list_in t n = take n t
 
-abbrev pub UnmarkedIn : Bor (List ℕ) → Bor (List ℤ) → Bor (List ℤ) → ℕ → ℕ → Type 0
-UnmarkedIn f t ms k n = Unmarked f.now t.now ms.now k n
+abbrev pub UnmarkedIn : List ℕ → List ℤ → List ℤ → ℕ → ℕ → Type 0
+UnmarkedIn f t ms k n = Unmarked f t ms k n
 
-abbrev pub DeletedIn : List ℕ → Bor (List ℤ) → Bor (List ℤ) → Bor (List ℤ) → ℕ → Bool → Type 0
-DeletedIn c t ms ms' count r = Deleted c t.now ms.now ms'.now count r
+abbrev pub DeletedIn : List ℕ → List ℤ → List ℤ → List ℤ → ℕ → Bool → Type 0
+DeletedIn c t ms ms' count r = Deleted c t ms ms' count r

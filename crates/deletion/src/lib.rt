@@ -13,15 +13,15 @@ use trail::{Falses, Trail, assume, is_off, undo, wide16};
 
 // One literal more of the deleted clause; the trail's length.
 pub fn list_literal(falses: &mut Falses, trail: &mut Trail, n: usize, l: u32) -> usize
-    ensures { ListedIn falses.entry trail.entry n → (l < 65536)
-        → ListedIn falses.exit trail.exit result × MoreBy l (list_in trail.entry n) (list_in trail.exit result) }
+    ensures { ListedIn falses.old trail.old n → (l < 65536)
+        → ListedIn falses.new trail.new result × MoreBy l (list_in trail.old n) (list_in trail.new result) }
 {
     assume(falses, trail, n, l)
 }
 
 // Whether falses marks every literal of a clause.
 fn all_marked(table: &[i32], start: Cursor, falses: &Falses) -> bool
-    ensures { result ≡ all (off falses.now) (literals_in table.entry start) }
+    ensures { result ≡ all (off falses.now) (literals_in table.now start) }
 {
     let mut i = start;
     loop {
@@ -39,7 +39,7 @@ fn all_marked(table: &[i32], start: Cursor, falses: &Falses) -> bool
 // Whether a clause holds each of trail[0..n).
 fn covers(table: &[i32], start: Cursor, trail: &Trail, n: usize) -> bool
     ensures { n ≤ 65536 → length trail.now ≡ 65536
-        → result ≡ all (is_in (literals_in table.entry start)) (list_in trail.entry n) }
+        → result ≡ all (is_in (literals_in table.now start)) (list_in trail.now n) }
 {
     let mut k = 0;
     while k < n {
@@ -56,8 +56,8 @@ fn covers(table: &[i32], start: Cursor, trail: &Trail, n: usize) -> bool
 }
 
 fn is_same(table: &[i32], start: Cursor, falses: &Falses, trail: &Trail, n: usize) -> bool
-    ensures { ListedIn falses.entry trail.entry n
-        → result ≡ same_as (list_in trail.entry n) (literals_in table.entry start) }
+    ensures { ListedIn falses.now trail.now n
+        → result ≡ same_as (list_in trail.now n) (literals_in table.now start) }
 {
     if all_marked(table, start, falses) {
         return covers(table, start, trail, n);
@@ -101,7 +101,7 @@ fn passed(table: &[i32], marks: &[i32], k: usize, n: usize) -> usize
 
 // Passes over the places from k on, below count, at which no clause stands or one with a literal that falses does not mark; where that ends.
 fn candidate(table: &[i32], marks: &[i32], k: usize, count: usize, falses: &Falses) -> usize
-    ensures { (k ≤ result) × UnmarkedIn falses.entry table.entry marks.entry k result }
+    ensures { (k ≤ result) × UnmarkedIn falses.now table.now marks.now k result }
 {
     let mut place = k;
     while place < count {
@@ -126,8 +126,8 @@ fn is_there(
     trail: &Trail,
     n: usize,
 ) -> bool
-    ensures { ListedIn falses.entry trail.entry n
-        → result ≡ (stands_in table.entry marks.entry k && same_as (list_in trail.entry n) (clause_in table.entry marks.entry k)) }
+    ensures { ListedIn falses.now trail.now n
+        → result ≡ (stands_in table.now marks.now k && same_as (list_in trail.now n) (clause_in table.now marks.now k)) }
 {
     if stands(table, marks, k) {
         return is_same(table, clause(table, marks, k), falses, trail, n);
@@ -144,8 +144,8 @@ fn take_earliest(
     trail: &Trail,
     n: usize,
 ) -> bool
-    ensures { ListedIn falses.entry trail.entry n
-        → DeletedIn (list_in trail.entry n) table.entry marks.entry marks.exit count result }
+    ensures { ListedIn falses.now trail.now n
+        → DeletedIn (list_in trail.now n) table.now marks.old marks.new count result }
 {
     let mut found = false;
     let mut place = candidate(table, marks, 0, count, falses);
@@ -172,9 +172,9 @@ pub fn delete(
     trail: &Trail,
     n: usize,
 ) -> bool
-    ensures { ListedIn falses.entry trail.entry n
-        → DeletedIn (list_in trail.entry n) table.entry marks.entry marks.exit count result
-        × ReadyIn falses.exit trail.entry 0 }
+    ensures { ListedIn falses.old trail.now n
+        → DeletedIn (list_in trail.now n) table.now marks.old marks.new count result
+        × ReadyIn falses.new trail.now 0 }
 {
     let found = take_earliest(table, marks, count, falses, trail, n);
     undo(falses, trail, n, 0);

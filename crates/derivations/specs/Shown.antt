@@ -1,7 +1,6 @@
 -- What the progress, the tables and the working memory show of the rules' state between two lines of a FERP certificate. Assumes nothing.
 use Rattle.std.specs.Prelude.{◌≡◌, true, List, ◌⊎◌, ℕ, ◌+◌, ◌≤◌, length}
 use Rattle.std.proofs.Common.{inl, inr}
-use Rattle.std.specs.Borrow.{Bor}
 use Rattle.rules.specs.Formula.{Formula}
 use Rattle.rules.specs.Needs.{Places, places, fits}
 use Rattle.rules.specs.Least.{Proper}
@@ -31,8 +30,8 @@ abbrev pub work : List ℕ → List ℕ → List ℕ → List ℕ → Work
 work a b c d = record { starts = a; noted = b; indexes = c; seen = d }
 
 -- as a call has it
-abbrev pub four : Bor (List ℕ) → Bor (List ℕ) → Bor (List ℕ) → Bor (List ℕ) → Work
-four a b c d = work a.now b.now c.now d.now
+abbrev pub four : List ℕ → List ℕ → List ℕ → List ℕ → Work
+four a b c d = work a b c d
 
 -- the clauses derived
 abbrev pub clauses_of : Progress → Tables → List (List ℕ)

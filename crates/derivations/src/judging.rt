@@ -32,8 +32,8 @@ fn expansion_broken(
     held: &mut [u16],
 ) -> u32
     ensures { 8194 ≤ length held.old → ExpansionJudged p n
-        (six prefix.entry matrix.entry map.entry proof.entry marks.entry values.entry)
-        (four starts.entry noted.entry indexes.entry seen.entry) result seen.new }
+        (six prefix.now matrix.now map.now proof.now marks.now values.now)
+        (four starts.now noted.now indexes.now seen.old) result seen.new }
 {
     let store = p.store;
     if unmapped::all_mapped(proof, clauses::pending(store), noted) {
@@ -105,8 +105,8 @@ fn rule_broken(
     held: &mut [u16],
 ) -> u32
     ensures { 8194 ≤ length held.old → RuleJudged p reason
-        (six prefix.entry matrix.entry map.entry proof.entry marks.entry values.entry)
-        (four starts.entry noted.entry indexes.entry seen.entry) result seen.new }
+        (six prefix.now matrix.now map.now proof.now marks.now values.now)
+        (four starts.now noted.now indexes.now seen.old) result seen.new }
 {
     match reason {
         Reason::Clause(n) => expansion_broken(
@@ -186,10 +186,10 @@ pub fn derive(
     held: &mut [u16],
 ) -> Step
     ensures { 8194 ≤ length held.old → Judges i reason p n m
-        (six prefix.entry matrix.entry map.entry proof.entry marks.entry values.entry)
-        (four starts.entry noted.entry indexes.entry seen.entry) result
-        (six prefix.entry matrix.entry map.entry proof.entry marks.exit values.entry)
-        (four starts.entry noted.entry indexes.exit seen.exit) }
+        (six prefix.now matrix.now map.now proof.now marks.old values.now)
+        (four starts.now noted.now indexes.old seen.old) result
+        (six prefix.now matrix.now map.now proof.now marks.new values.now)
+        (four starts.now noted.now indexes.new seen.new) }
 {
     if indexes::place_of(indexes, i) != 0 {
         return Step::Refuse(17);

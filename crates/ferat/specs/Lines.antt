@@ -1,7 +1,6 @@
 -- What a line of the certificate comes to, read by its form. Assumes nothing.
 use Rattle.std.specs.Prelude.{◌≡◌, true, List, map, ℕ, ◌+◌, ◌%◌, length, take, ℤ}
 use Rattle.std.proofs.Math.Option.{Option}
-use Rattle.std.specs.Borrow.{Bor}
 use Rattle.lines.specs.Lines.{Token}
 use Rattle.lines.specs.Scan.{tokens_from}
 use Rattle.cells.specs.Cells.{up_to}
@@ -32,17 +31,17 @@ pub record Line (form : List Token → Option CertificateLine) (bs : List ℕ) (
   pub steps : (f : Formula) (s : State) → Shown p t w f s → Light p (length bs) → Stepped f p (length bs) t (judged form bs at t f s) r u v
 
 -- the tables with some of them as a call has them
-abbrev pub with_proof : Tables → Bor (List ℤ) → Tables
-with_proof t proof = tables t.prefix t.matrix t.map proof.now t.marks t.values
+abbrev pub with_proof : Tables → List ℤ → Tables
+with_proof t proof = tables t.prefix t.matrix t.map proof t.marks t.values
 
-abbrev pub with_three : Tables → Bor (List ℤ) → Bor (List ℤ) → Bor (List ℤ) → Tables
-with_three t proof marks values = tables t.prefix t.matrix t.map proof.now marks.now values.now
+abbrev pub with_three : Tables → List ℤ → List ℤ → List ℤ → Tables
+with_three t proof marks values = tables t.prefix t.matrix t.map proof marks values
 
-abbrev pub with_map : Tables → Bor (List ℤ) → Bor (List ℤ) → Bor (List ℤ) → Tables
-with_map t prefix map values = tables prefix.now t.matrix map.now t.proof t.marks values.now
+abbrev pub with_map : Tables → List ℤ → List ℤ → List ℤ → Tables
+with_map t prefix map values = tables prefix t.matrix map t.proof t.marks values
 
-abbrev pub with_noted : Work → Bor (List ℕ) → Work
-with_noted w noted = work w.starts noted.now w.falses w.trail
+abbrev pub with_noted : Work → List ℕ → Work
+with_noted w noted = work w.starts noted w.falses w.trail
 
 -- the progress after an `o` line of n hints, with a store above them
 abbrev pub hinted_with : Progress → ℕ → Store → Progress

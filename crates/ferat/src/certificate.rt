@@ -33,10 +33,10 @@ fn certificate_line(
     watches: &mut Watches,
 ) -> Step
     ensures { AnyLine line.now p
-        (six prefix.entry matrix.entry map.entry proof.entry marks.entry values.entry)
-        (four starts.entry noted.entry falses.entry trail.entry) result
-        (six prefix.entry matrix.entry map.exit proof.exit marks.exit values.exit)
-        (four starts.entry noted.exit falses.exit trail.exit) }
+        (six prefix.now matrix.now map.old proof.old marks.old values.old)
+        (four starts.now noted.old falses.old trail.old) result
+        (six prefix.now matrix.now map.new proof.new marks.new values.new)
+        (four starts.now noted.new falses.new trail.new) }
 {
     match kind_of(line) {
         Kind::Skip => Step::Next(p),
@@ -69,9 +69,9 @@ pub fn read_certificate(
 ) -> Ended
     requires { length certificate.now ≤ 1048576 }
     ensures { CertificateRead certificate.now p
-        (six prefix.entry matrix.entry map.entry proof.entry marks.entry values.entry)
-        (four starts.entry noted.entry falses.entry trail.entry) result
-        (six prefix.entry matrix.entry map.exit proof.exit marks.exit values.exit) }
+        (six prefix.now matrix.now map.old proof.old marks.old values.old)
+        (four starts.now noted.old falses.old trail.old) result
+        (six prefix.now matrix.now map.new proof.new marks.new values.new) }
 {
     let mut q = p;
     let mut at = 0;

@@ -30,10 +30,10 @@ pub fn expansion_line(
     watches: &mut Watches,
 ) -> Step
     ensures { Line (clause_form expansion) line.now at p
-        (six prefix.entry matrix.entry map.entry proof.entry marks.entry values.entry)
-        (four starts.entry noted.entry falses.entry trail.entry) result
-        (six prefix.entry matrix.entry map.entry proof.exit marks.exit values.entry)
-        (four starts.entry noted.entry falses.exit trail.exit) }
+        (six prefix.now matrix.now map.now proof.old marks.old values.now)
+        (four starts.now noted.now falses.old trail.old) result
+        (six prefix.now matrix.now map.now proof.new marks.new values.now)
+        (four starts.now noted.now falses.new trail.new) }
 {
     let Clause::Good(_, n, m) = lists::clause_at(line, at) else {
         return Step::Refuse(2);
@@ -68,8 +68,8 @@ pub fn addition_line(
     watches: &mut Watches,
 ) -> Step
     ensures { (t : Tables) (w : Work) → Line (clause_form addition) line.now 0 p
-        (with_three t proof.entry marks.entry values.entry) (beside w falses.entry trail.entry) result
-        (with_three t proof.exit marks.exit values.entry) (beside w falses.exit trail.exit) }
+        (with_three t proof.old marks.old values.now) (beside w falses.old trail.old) result
+        (with_three t proof.new marks.new values.now) (beside w falses.new trail.new) }
 {
     let Clause::Good(_, n, m) = lists::clause_at(line, 0) else {
         return Step::Refuse(2);

@@ -52,8 +52,8 @@ pub fn deletion_line(
     trail: &mut Trail,
 ) -> Step
     ensures { (t : Tables) (w : Work) → Line (clause_form deletion) line.now at p
-        (among t proof.entry marks.entry) (beside w falses.entry trail.entry) result
-        (among t proof.entry marks.exit) (beside w falses.exit trail.exit) }
+        (among t proof.now marks.old) (beside w falses.old trail.old) result
+        (among t proof.now marks.new) (beside w falses.new trail.new) }
 {
     let Clause::Good(_, _, m) = lists::clause_at(line, at) else {
         return Step::Refuse(2);

@@ -32,7 +32,7 @@ fn with_hints(p: Progress, n: usize) -> Progress
 // `o n1..nj 0`: the hints are stored at the start of the proof table.
 pub fn hints_line(line: &[u8], at: usize, p: Progress, proof: &mut [i32]) -> Step
     ensures { (t : Tables) (w : Work) → Line hints_form line.now at p
-        (with_proof t proof.entry) w result (with_proof t proof.exit) w }
+        (with_proof t proof.old) w result (with_proof t proof.new) w }
 {
     let Clause::Good(s, n, m) = lists::clause_at(line, at) else {
         return Step::Refuse(2);

@@ -17,8 +17,8 @@ pub extern "C" fn hutsvida_check_ferp(
     seven: &mut [u32; 7],
 )
     ensures { CheckedNumbers (CheckedIn formula.now certificate.now)
-        (six prefix.entry matrix.entry map.entry proof.entry marks.entry values.entry) seven.new
-        (six prefix.exit matrix.exit map.exit proof.exit marks.exit values.exit) }
+        (six prefix.old matrix.old map.old proof.old marks.old values.old) seven.new
+        (six prefix.new matrix.new map.new proof.new marks.new values.new) }
 {
     *seven = report::numbers(ferp::check(
         formula,

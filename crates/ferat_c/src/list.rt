@@ -18,8 +18,8 @@ pub extern "C" fn hutsvida_check_all(
     out: &mut [u32],
 )
     ensures { CheckedAll bytes.now ends.now kinds.now
-        (six prefix.entry matrix.entry map.entry proof.entry marks.entry values.entry) out.old
-        (six prefix.exit matrix.exit map.exit proof.exit marks.exit values.exit) out.new }
+        (six prefix.old matrix.old map.old proof.old marks.old values.old) out.old
+        (six prefix.new matrix.new map.new proof.new marks.new values.new) out.new }
 {
     checks::check_all(
         bytes, ends, kinds, prefix, matrix, map, proof, marks, values, out,

@@ -1,7 +1,6 @@
 -- What a line of the certificate comes to, read by its form. Assumes nothing.
 use Rattle.std.specs.Prelude.{Bool, List, ℕ, eqb, length, ℤ}
 use Rattle.std.proofs.Math.Option.{Option}
-use Rattle.std.specs.Borrow.{Bor}
 use Rattle.lines.specs.Lines.{Token}
 use Rattle.lines.specs.Scan.{tokens_from}
 use Rattle.rules.specs.Basics.{maybe}
@@ -37,11 +36,11 @@ pub record Line (form : List Token → Option FerpLine) (bs : List ℕ) (at : �
       → Leads ferp_rules ferp_code f p (length bs) t (judged form bs at t f s) (answer_of r) u v
 
 -- the tables and the working memory with some of them as a call has them
-abbrev pub with_map : Tables → Bor (List ℤ) → Bor (List ℤ) → Bor (List ℤ) → Tables
-with_map t prefix map values = tables prefix.now t.matrix map.now t.proof t.marks values.now
+abbrev pub with_map : Tables → List ℤ → List ℤ → List ℤ → Tables
+with_map t prefix map values = tables prefix t.matrix map t.proof t.marks values
 
-abbrev pub with_noted : Work → Bor (List ℕ) → Work
-with_noted w noted = work w.starts noted.now w.indexes w.seen
+abbrev pub with_noted : Work → List ℕ → Work
+with_noted w noted = work w.starts noted w.indexes w.seen
 
 -- the progress after a mapping line
 abbrev pub mapped_in : Progress → Mapped → Progress

@@ -33,10 +33,10 @@ fn certificate_line(
 ) -> Step
     requires { 8194 ≤ length held.old }
     ensures { AnyLine line.now p
-        (six prefix.entry matrix.entry map.entry proof.entry marks.entry values.entry)
-        (four starts.entry noted.entry indexes.entry seen.entry) result
-        (six prefix.entry matrix.entry map.exit proof.exit marks.exit values.exit)
-        (four starts.entry noted.exit indexes.exit seen.exit) }
+        (six prefix.now matrix.now map.old proof.old marks.old values.old)
+        (four starts.now noted.old indexes.old seen.old) result
+        (six prefix.now matrix.now map.new proof.new marks.new values.new)
+        (four starts.now noted.new indexes.new seen.new) }
 {
     match kind_of(line) {
         Kind::Skip => Step::Next(p),
@@ -78,9 +78,9 @@ pub fn read_certificate(
 ) -> Ended
     requires { (length certificate.now ≤ 1048576) × (8194 ≤ length held.old) }
     ensures { CertificateRead certificate.now p
-        (six prefix.entry matrix.entry map.entry proof.entry marks.entry values.entry)
-        (four starts.entry noted.entry indexes.entry seen.entry) result
-        (six prefix.entry matrix.entry map.exit proof.exit marks.exit values.exit) }
+        (six prefix.now matrix.now map.old proof.old marks.old values.old)
+        (four starts.now noted.old indexes.old seen.old) result
+        (six prefix.now matrix.now map.new proof.new marks.new values.new) }
 {
     let mut q = p;
     let mut at = 0;

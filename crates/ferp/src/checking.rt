@@ -44,8 +44,8 @@ fn check_certificate(
 ) -> Ended
     requires { length certificate.now ≤ 1048576 }
     ensures { FormulaChecked certificate.now r
-        (six prefix.entry matrix.entry map.entry proof.entry marks.entry values.entry) result
-        (six prefix.entry matrix.entry map.exit proof.exit marks.exit values.exit) }
+        (six prefix.now matrix.now map.old proof.old marks.old values.old) result
+        (six prefix.now matrix.now map.new proof.new marks.new values.new) }
 {
     let mut starts = [0; 8193];
     let mut noted = [0; 16385];
@@ -84,8 +84,8 @@ pub fn check(
     values: &mut [i32],
 ) -> Report
     ensures { CheckedIn formula.now certificate.now
-        (six prefix.entry matrix.entry map.entry proof.entry marks.entry values.entry) result
-        (six prefix.exit matrix.exit map.exit proof.exit marks.exit values.exit) }
+        (six prefix.old matrix.old map.old proof.old marks.old values.old) result
+        (six prefix.new matrix.new map.new proof.new marks.new values.new) }
 {
     if BYTES < formula.len() {
         return refused_early(1, 1, 0);

@@ -32,10 +32,10 @@ pub fn clause_line(
 ) -> Step
     requires { 8194 ≤ length held.old }
     ensures { Line derivation_form line.now 0 p
-        (six prefix.entry matrix.entry map.entry proof.entry marks.entry values.entry)
-        (four starts.entry noted.entry indexes.entry seen.entry) result
-        (six prefix.entry matrix.entry map.entry proof.exit marks.exit values.entry)
-        (four starts.entry noted.entry indexes.exit seen.exit) }
+        (six prefix.now matrix.now map.now proof.old marks.old values.now)
+        (four starts.now noted.now indexes.old seen.old) result
+        (six prefix.now matrix.now map.now proof.new marks.new values.now)
+        (four starts.now noted.now indexes.new seen.new) }
 {
     let Derivation::Good(i, from, n, m, reason) = ferp_forms::derivation_at(line, 0, buffer) else {
         return Step::Refuse(2);

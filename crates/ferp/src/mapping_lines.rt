@@ -42,8 +42,8 @@ pub fn mapping_line(
     noted: &mut Noted,
 ) -> Step
     ensures { (t : Tables) (w : Work) → Line same_form line.now at p
-        (with_map t prefix.entry map.entry values.entry) (with_noted w noted.entry) result
-        (with_map t prefix.entry map.exit values.exit) (with_noted w noted.exit) }
+        (with_map t prefix.now map.old values.old) (with_noted w noted.old) result
+        (with_map t prefix.now map.new values.new) (with_noted w noted.new) }
 {
     let open = before_clauses(p);
     let state = p.mapped;

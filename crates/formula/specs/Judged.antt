@@ -1,7 +1,6 @@
 -- A line of the formula, as the rules judge it and as the code does. Assumes nothing.
 use Rattle.std.specs.Prelude.{◌≡◌, cond, List, ℕ, ◌+◌, ◌≤◌, eqb, length, ℤ}
 use Rattle.std.proofs.Math.Option.{Option, none, some}
-use Rattle.std.specs.Borrow.{Bor}
 use Rattle.lines.specs.Scan.{tokens_from}
 use Rattle.cells.specs.Cells.{Kept}
 use Rattle.rules.specs.Basics.{maybe}
@@ -79,11 +78,11 @@ pub record LineRead (judge : Places → Option Formula → Step (Option Formula)
   pub grows : Grows (bound_of s + n) t
 
 -- the same in the tables as a call has them; where the prefix table alone is lent, whatever the matrix table holds
-abbrev pub ReadInBoth : (Places → Option Formula → Step (Option Formula)) → State → Bor (List ℕ) → Bor (List ℤ) → Bor (List ℤ) → Outcome → Bor (List ℤ) → Bor (List ℤ) → Type 0
-ReadInBoth judge s line p m t u w = LineRead judge s (length line.now) p.now m.now t u.now w.now
+abbrev pub ReadInBoth : (Places → Option Formula → Step (Option Formula)) → State → List ℕ → List ℤ → List ℤ → Outcome → List ℤ → List ℤ → Type 0
+ReadInBoth judge s line p m t u w = LineRead judge s (length line) p m t u w
 
-abbrev pub ReadInPrefix : (Places → Option Formula → Step (Option Formula)) → State → Bor (List ℕ) → Bor (List ℤ) → Outcome → Bor (List ℤ) → Type 0
-ReadInPrefix judge s line p t u = (m : List ℤ) → LineRead judge s (length line.now) p.now m t u.now m
+abbrev pub ReadInPrefix : (Places → Option Formula → Step (Option Formula)) → State → List ℕ → List ℤ → Outcome → List ℤ → Type 0
+ReadInPrefix judge s line p t u = (m : List ℤ) → LineRead judge s (length line) p m t u m
 
 -- what reading a line of n bytes asks for
 pub record Able (n : ℕ) (s : State) (m : List ℤ) : Type 0 where

@@ -74,7 +74,7 @@ fn put_binding(line: &[u8], at: usize, q: u32, prefix: &mut [i32], bound: u32) -
 // A prefix line, from the place after its letter on.
 fn binding_line(line: &[u8], at: usize, q: u32, r: Reading, prefix: &mut [i32]) -> Outcome
     requires { (r.bound + length line.now ≤ 1048576) × (1 ≤ q) × (q ≤ 2) }
-    ensures { ReadInPrefix (binding_judge line.now at q) (State.Within r) line.entry prefix.entry result prefix.exit }
+    ensures { ReadInPrefix (binding_judge line.now at q) (State.Within r) line.now prefix.old result prefix.new }
 {
     let Clause::Good(s, n, m) = lists::clause_at(line, at) else {
         return Outcome::Refuse(2);
@@ -109,8 +109,8 @@ fn binding_line(line: &[u8], at: usize, q: u32, r: Reading, prefix: &mut [i32]) 
 // A clause line.
 fn clause_line(line: &[u8], r: Reading, prefix: &[i32], matrix: &mut [i32]) -> Outcome
     requires { r.used ≤ length matrix.old }
-    ensures { ReadInBoth (clause_judge line.now) (State.Within r) line.entry
-        prefix.entry matrix.entry result prefix.entry matrix.exit }
+    ensures { ReadInBoth (clause_judge line.now) (State.Within r) line.now
+        prefix.now matrix.old result prefix.now matrix.new }
 {
     let Clause::Good(_, n, most) = lists::clause_at(line, 0) else {
         return Outcome::Refuse(2);
@@ -146,7 +146,7 @@ fn clause_line(line: &[u8], r: Reading, prefix: &[i32], matrix: &mut [i32]) -> O
 
 // The `p` line, from the place after its letter on.
 fn problem_line(line: &[u8], at: usize, prefix: &mut [i32]) -> Outcome
-    ensures { ReadInPrefix (problem_judge line.now at) State.Start line.entry prefix.entry result prefix.exit }
+    ensures { ReadInPrefix (problem_judge line.now at) State.Start line.now prefix.old result prefix.new }
 {
     let Found::After(e) = lines::word_is(line, at, b"cnf") else {
         return Outcome::Refuse(2);
@@ -216,7 +216,7 @@ fn kind_of(line: &[u8]) -> Kind
 
 // A line before the `p` line, or that line.
 fn line_first(line: &[u8], prefix: &mut [i32]) -> Outcome
-    ensures { ReadInPrefix (line_judge line.now) State.Start line.entry prefix.entry result prefix.exit }
+    ensures { ReadInPrefix (line_judge line.now) State.Start line.now prefix.old result prefix.new }
 {
     match kind_of(line) {
         Kind::Skip => Outcome::Next(State::Start),
@@ -229,8 +229,8 @@ fn line_first(line: &[u8], prefix: &mut [i32]) -> Outcome
 // A line after the `p` line.
 fn line_within(line: &[u8], r: Reading, prefix: &mut [i32], matrix: &mut [i32]) -> Outcome
     requires { Able (length line.now) (State.Within r) matrix.old }
-    ensures { ReadInBoth (line_judge line.now) (State.Within r) line.entry
-        prefix.entry matrix.entry result prefix.exit matrix.exit }
+    ensures { ReadInBoth (line_judge line.now) (State.Within r) line.now
+        prefix.old matrix.old result prefix.new matrix.new }
 {
     match kind_of(line) {
         Kind::Skip => Outcome::Next(State::Within(r)),
@@ -242,8 +242,8 @@ fn line_within(line: &[u8], r: Reading, prefix: &mut [i32], matrix: &mut [i32]) 
 
 fn read_line(line: &[u8], s: State, prefix: &mut [i32], matrix: &mut [i32]) -> Outcome
     requires { Able (length line.now) s matrix.old }
-    ensures { ReadInBoth (line_judge line.now) s line.entry
-        prefix.entry matrix.entry result prefix.exit matrix.exit }
+    ensures { ReadInBoth (line_judge line.now) s line.now
+        prefix.old matrix.old result prefix.new matrix.new }
 {
     match s {
         State::Start => line_first(line, prefix),

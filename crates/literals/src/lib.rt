@@ -19,8 +19,8 @@ pub fn first_in_clause(
     matrix: &[i32],
     c: usize,
 ) -> bool
-    ensures { result ≡ first_in (words prefix.entry) (stands_in values.entry map.entry)
-        (list_in matrix.entry c) (list_in proof.entry l) }
+    ensures { result ≡ first_in (words prefix.now) (stands_in values.now map.now)
+        (list_in matrix.now c) (list_in proof.now l) }
 {
     let x = read::code(proof, l);
     if x == 0 {
@@ -34,7 +34,7 @@ pub fn first_in_clause(
 
 // Whether code y has a mark, which becomes 2; one without a place is looked for in the clause.
 fn stamp_code(seen: &mut [u8], matrix: &[i32], c: usize, y: usize) -> bool
-    ensures { (result ≡ is_marked (list_in matrix.entry c) seen.old y)
+    ensures { (result ≡ is_marked (list_in matrix.now c) seen.old y)
         × (seen.new ≡ stamped result y seen.old) }
 {
     if y < seen.len() {
@@ -57,9 +57,9 @@ fn stamp_literal(
     c: usize,
     x: usize,
 ) -> bool
-    ensures { (result ≡ meets (words prefix.entry) (stands_in values.entry map.entry) (list_in matrix.entry c)
+    ensures { (result ≡ meets (words prefix.now) (stands_in values.now map.now) (list_in matrix.now c)
         seen.old x)
-        × (seen.new ≡ stamped result (image_of (stands_in values.entry map.entry) x) seen.old) }
+        × (seen.new ≡ stamped result (image_of (stands_in values.now map.now) x) seen.old) }
 {
     let e = copies::stands(values, map, x / 2);
     if prefix::existential(prefix, e) {
@@ -79,10 +79,10 @@ fn stamp_line(
     matrix: &[i32],
     c: usize,
 ) -> bool
-    ensures { (result ≡ all (meets (words prefix.entry) (stands_in values.entry map.entry) (list_in matrix.entry c)
-        seen.old) (list_in proof.entry l))
-        × (seen.new ≡ stamped_by (words prefix.entry) (stands_in values.entry map.entry) (list_in matrix.entry c)
-        (list_in proof.entry l) seen.old) }
+    ensures { (result ≡ all (meets (words prefix.now) (stands_in values.now map.now) (list_in matrix.now c)
+        seen.old) (list_in proof.now l))
+        × (seen.new ≡ stamped_by (words prefix.now) (stands_in values.now map.now) (list_in matrix.now c)
+        (list_in proof.now l) seen.old) }
 {
     let mut i = l;
     loop {
@@ -100,7 +100,7 @@ fn stamp_line(
 
 // If literal y is existential, one of the line stands for it. Without marks.
 fn in_line(prefix: &[i32], values: &[i32], map: &[i32], proof: &[i32], l: usize, y: usize) -> bool
-    ensures { result ≡ in_line (words prefix.entry) (stands_in values.entry map.entry) (list_in proof.entry l) y }
+    ensures { result ≡ in_line (words prefix.now) (stands_in values.now map.now) (list_in proof.now l) y }
 {
     if prefix::existential(prefix, y / 2) {
         return copies::has_image(values, map, proof, l, y);
@@ -118,7 +118,7 @@ fn clear_code(
     l: usize,
     y: usize,
 ) -> bool
-    ensures { (result ≡ answered (words prefix.entry) (stands_in values.entry map.entry) (list_in proof.entry l)
+    ensures { (result ≡ answered (words prefix.now) (stands_in values.now map.now) (list_in proof.now l)
         seen.old y)
         × (seen.new ≡ set seen.old y 0) }
 {
@@ -144,9 +144,9 @@ fn take_back(
     matrix: &[i32],
     c: usize,
 ) -> bool
-    ensures { (result ≡ all (answered (words prefix.entry) (stands_in values.entry map.entry) (list_in proof.entry l)
-        seen.old) (list_in matrix.entry c))
-        × (seen.new ≡ cleared (list_in matrix.entry c) seen.old) }
+    ensures { (result ≡ all (answered (words prefix.now) (stands_in values.now map.now) (list_in proof.now l)
+        seen.old) (list_in matrix.now c))
+        × (seen.new ≡ cleared (list_in matrix.now c) seen.old) }
 {
     let mut all = true;
     let mut i = c;
@@ -171,8 +171,8 @@ pub fn literals_fit(
     c: usize,
     seen: &mut [u8],
 ) -> bool
-    ensures { Unmarked seen.old → (result ≡ literals_fit (words prefix.entry) (stands_in values.entry map.entry)
-        (list_in proof.entry l) (list_in matrix.entry c)) × Unmarked seen.new }
+    ensures { Unmarked seen.old → (result ≡ literals_fit (words prefix.now) (stands_in values.now map.now)
+        (list_in proof.now l) (list_in matrix.now c)) × Unmarked seen.new }
 {
     marks::mark(seen, matrix, c);
     let a = stamp_line(seen, prefix, values, map, proof, l, matrix, c);

@@ -1,7 +1,6 @@
 -- A mapping line: what its first pass tells, and what the line leads to. Assumes nothing.
 use Rattle.std.specs.Prelude.{◌≡◌, Bool, ◌&&◌, cond, List, ◌++◌, ℕ, ◌+◌, ◌*◌, ◌<◌, ◌≤◌, max, leb, length, ℤ}
 use Rattle.std.proofs.Math.Option.{Option, none, some}
-use Rattle.std.specs.Borrow.{Bor}
 use Rattle.lines.specs.Lists.{all}
 use Rattle.lines.specs.Scan.{tokens_from}
 use Rattle.cells.specs.Cells.{Kept}
@@ -38,8 +37,8 @@ pub record Lent : Type 0 where
   pub values : List ℤ
   pub noted : List ℕ
 
-abbrev pub lent : Bor (List ℤ) → Bor (List ℤ) → Bor (List ℕ) → Lent
-lent t u n = record { map = t.now; values = u.now; noted = n.now }
+abbrev pub lent : List ℤ → List ℤ → List ℕ → Lent
+lent t u n = record { map = t; values = u; noted = n }
 
 -- THE STATE AFTER THE LINE. "map, each mapping line's numbers with its three zeros"; "values, the largest copy .. so far"
 abbrev pub after : Mapped → List ℕ → List ℕ → Lits → Mapped

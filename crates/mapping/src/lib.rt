@@ -80,7 +80,7 @@ pub fn mapping_line(
     noted: &mut Noted,
 ) -> Answer
     ensures { MappingLine line.now at in_turn v state prefix.now
-        (lent map.entry values.entry noted.entry) result (lent map.exit values.exit noted.exit) }
+        (lent map.old values.old noted.old) result (lent map.new values.new noted.new) }
 {
     let Mapping::Lists(k, m, c, e, l, i, h) = lists::mapping_at(line, at) else {
         return Answer::Refuse(2);

@@ -2,7 +2,6 @@
 use Rattle.std.specs.Prelude.{◌≡◌, true, false, List, map, ◌⊎◌, ℕ, ◌+◌, ◌*◌, ◌≤◌, ◌<◌, length, ℤ}
 use Rattle.std.proofs.Common.{inl, inr}
 use Rattle.std.proofs.Math.Option.{Option, none, some}
-use Rattle.std.specs.Borrow.{Bor}
 use Rattle.cells.specs.Cells.{list_at}
 use Rattle.lists.specs.Stores.{in_range}
 use Rattle.rules.specs.Basics.{maybe}
@@ -38,8 +37,8 @@ abbrev pub work : List ℕ → List ℕ → List ℕ → List ℕ → Work
 work a b c d = record { starts = a; noted = b; falses = c; trail = d }
 
 -- as a call has it
-abbrev pub four : Bor (List ℕ) → Bor (List ℕ) → Bor (List ℕ) → Bor (List ℕ) → Work
-four a b c d = work a.now b.now c.now d.now
+abbrev pub four : List ℕ → List ℕ → List ℕ → List ℕ → Work
+four a b c d = work a b c d
 
 -- THE HINTS: the proof table begins with them, each as twice its number, and a 0
 abbrev pub HintsShown : Hinted → List ℤ → ℕ → Option (List ℕ) → Type 0

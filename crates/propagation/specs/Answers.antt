@@ -1,7 +1,6 @@
 -- What the contracts of propagation say. A literal is its code. Assumes nothing.
 use Rattle.std.specs.Prelude.{◌≡◌, ◌⊎◌, Bool, true, false, ℕ, zero, suc, ◌≤◌, ◌<◌, get_or}
 use mathlib.Core.List.{List, Memᴰ}
-use Rattle.std.specs.Borrow.{Bor}
 use Rattle.rules.specs.Codes.{flip}
 use Rattle.trail.specs.Trail.{off, truth, Ready}
 use Rattle.propagation.specs.declared.looks.Look.{Look}
@@ -110,14 +109,14 @@ pub record Held (S : List (List ℕ)) (f t : List ℕ) (n : ℕ) : Type 0 where
   pub based : (Q : ℕ → Bool) → Good S Q → Holds Q t n
 
 -- AS THE REFERENCES OF A CALL SHOW THEM, the values and the trail
-abbrev pub HeldIn : List (List ℕ) → Bor (List ℕ) → Bor (List ℕ) → ℕ → Type 0
-HeldIn S f t n = Held S f.now t.now n
+abbrev pub HeldIn : List (List ℕ) → List ℕ → List ℕ → ℕ → Type 0
+HeldIn S f t n = Held S f t n
 
-abbrev pub VisitedIn : List (List ℕ) → Bor (List ℕ) → Bor (List ℕ) → ℕ → Bor (List ℕ) → Bor (List ℕ) → Visit → Type 0
-VisitedIn S f t n f' t' r = Visited S f.now t.now n f'.now t'.now r
+abbrev pub VisitedIn : List (List ℕ) → List ℕ → List ℕ → ℕ → List ℕ → List ℕ → Visit → Type 0
+VisitedIn S f t n f' t' r = Visited S f t n f' t' r
 
-abbrev pub TurnedIn : List (List ℕ) → Bor (List ℕ) → Bor (List ℕ) → ℕ → Bor (List ℕ) → Bor (List ℕ) → Turn → Type 0
-TurnedIn S f t n f' t' r = Turned S f.now t.now n f'.now t'.now r
+abbrev pub TurnedIn : List (List ℕ) → List ℕ → List ℕ → ℕ → List ℕ → List ℕ → Turn → Type 0
+TurnedIn S f t n f' t' r = Turned S f t n f' t' r
 
-abbrev pub SettledIn : List (List ℕ) → Bor (List ℕ) → Bor (List ℕ) → ℕ → Bor (List ℕ) → Bor (List ℕ) → Propagated → Type 0
-SettledIn S f t n f' t' r = Settled S f.now t.now n f'.now t'.now r
+abbrev pub SettledIn : List (List ℕ) → List ℕ → List ℕ → ℕ → List ℕ → List ℕ → Propagated → Type 0
+SettledIn S f t n f' t' r = Settled S f t n f' t' r

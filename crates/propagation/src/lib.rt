@@ -66,9 +66,9 @@ fn judge(
     k: usize,
     o: u32,
 ) -> Turn
-    ensures { ReadyIn falses.entry trail.entry n → (k < count)
-        → TurnedIn (standing_in table.entry marks.entry count)
-        falses.entry trail.entry n falses.exit trail.exit result }
+    ensures { ReadyIn falses.old trail.old n → (k < count)
+        → TurnedIn (standing_in table.now marks.now count)
+        falses.old trail.old n falses.new trail.new result }
 {
     if stands(table, marks, k) {
         return match seek(table, falses, clause(table, marks, k), o) {
@@ -94,9 +94,9 @@ fn walk(
     watches: &mut Watches,
     l: u32,
 ) -> Visit
-    ensures { ReadyIn falses.entry trail.entry from
-        → VisitedIn (standing_in table.entry marks.entry count)
-        falses.entry trail.entry from falses.exit trail.exit result }
+    ensures { ReadyIn falses.old trail.old from
+        → VisitedIn (standing_in table.now marks.now count)
+        falses.old trail.old from falses.new trail.new result }
 {
     let mut n = from;
     let mut before: u32 = END;
@@ -138,9 +138,9 @@ fn follow(
     from: usize,
     watches: &mut Watches,
 ) -> Visit
-    ensures { ReadyIn falses.entry trail.entry from
-        → VisitedIn (standing_in table.entry marks.entry count)
-        falses.entry trail.entry from falses.exit trail.exit result }
+    ensures { ReadyIn falses.old trail.old from
+        → VisitedIn (standing_in table.now marks.now count)
+        falses.old trail.old from falses.new trail.new result }
 {
     let mut n = from;
     let mut i = q;
@@ -162,7 +162,7 @@ fn follow(
 
 // What a look at every standing clause finds.
 fn scan_all(table: &[i32], marks: &[i32], count: usize, falses: &Falses) -> Scan
-    ensures { Scanned (standing_in table.entry marks.entry count) falses.now result }
+    ensures { Scanned (standing_in table.now marks.now count) falses.now result }
 {
     let mut k = 0;
     while k < count {
@@ -194,9 +194,9 @@ pub fn propagate(
     from: usize,
     watches: &mut Watches,
 ) -> Propagated
-    ensures { ReadyIn falses.entry trail.entry from
-        → SettledIn (standing_in table.entry marks.entry count)
-        falses.entry trail.entry from falses.exit trail.exit result }
+    ensures { ReadyIn falses.old trail.old from
+        → SettledIn (standing_in table.now marks.now count)
+        falses.old trail.old from falses.new trail.new result }
 {
     let mut n = from;
     let mut i = q;
@@ -232,9 +232,9 @@ pub fn ground(
     from: usize,
     watches: &mut Watches,
 ) -> Visit
-    ensures { ReadyIn falses.entry trail.entry from
-        → VisitedIn (standing_in table.entry marks.entry count)
-        falses.entry trail.entry from falses.exit trail.exit result }
+    ensures { ReadyIn falses.old trail.old from
+        → VisitedIn (standing_in table.now marks.now count)
+        falses.old trail.old from falses.new trail.new result }
 {
     if q != 0 {
         return follow(table, marks, count, falses, trail, q, from, watches);
@@ -256,9 +256,9 @@ fn watch_clause(
     watches: &mut Watches,
     k: usize,
 ) -> Turn
-    ensures { ReadyIn falses.entry trail.entry n → (k < count)
-        → TurnedIn (standing_in table.entry marks.entry count)
-        falses.entry trail.entry n falses.exit trail.exit result }
+    ensures { ReadyIn falses.old trail.old n → (k < count)
+        → TurnedIn (standing_in table.now marks.now count)
+        falses.old trail.old n falses.new trail.new result }
 {
     let start = clause(table, marks, k);
     match read_clause(table, falses, start) {
@@ -289,9 +289,9 @@ pub fn attach(
     watches: &mut Watches,
     k: usize,
 ) -> Units
-    ensures { HeldIn (standing_in table.entry marks.entry count) falses.entry trail.entry units.n
+    ensures { HeldIn (standing_in table.now marks.now count) falses.old trail.old units.n
         → (k < count)
-        → HeldIn (standing_in table.entry marks.entry count) falses.exit trail.exit result.n }
+        → HeldIn (standing_in table.now marks.now count) falses.new trail.new result.n }
 {
     let n = units.n;
     let q = units.q;

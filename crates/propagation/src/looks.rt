@@ -26,7 +26,7 @@ fn looked(one: u32) -> Look
 
 // A clause up to the second distinct literal that is not false.
 pub fn read_clause(table: &[i32], falses: &Falses, start: Cursor) -> Look
-    ensures { Saw falses.now (literals_in table.entry start) result }
+    ensures { Saw falses.now (literals_in table.now start) result }
 {
     let mut i = start;
     let mut one: u32 = 0;
@@ -48,7 +48,7 @@ pub fn read_clause(table: &[i32], falses: &Falses, start: Cursor) -> Look
 
 // The same, up to the first literal that is not false and not o.
 pub fn seek(table: &[i32], falses: &Falses, start: Cursor, o: u32) -> Look
-    ensures { Sought falses.now (literals_in table.entry start) result }
+    ensures { Sought falses.now (literals_in table.now start) result }
 {
     let mut i = start;
     let mut one: u32 = 0;

@@ -1,6 +1,5 @@
 -- What the contracts of additions say. Assumes nothing.
 use Rattle.std.specs.Prelude.{◌≡◌, Bool, true, false, not, ◌||◌, List, ◌++◌, map, ℕ, ◌<◌, eqb, ℤ, get_or}
-use Rattle.std.specs.Borrow.{Bor}
 use Rattle.lines.specs.Lists.{all, keep}
 use Rattle.rules.specs.Literals.{negate, holds}
 use Rattle.rules.specs.Codes.{lit_of, flip}
@@ -67,23 +66,23 @@ Decided S c f t (Accepted u) = Held S f t u.n × (accepts S c ≡ true)
 Decided S c f t Refused = accepts S c ≡ false
 
 -- AS THE REFERENCES OF A CALL SHOW THEM: clause d less a literal, clause c joined with it, and what becomes of the values and the trail
-abbrev pub less_in : Bor (List ℤ) → Cursor → ℕ → List ℕ
-less_in t d x = less_code x (literals_from t.now d)
+abbrev pub less_in : List ℤ → Cursor → ℕ → List ℕ
+less_in t d x = less_code x (literals_from t d)
 
-abbrev pub joined_in : Bor (List ℤ) → Cursor → Cursor → ℕ → List ℕ
-joined_in t c d x = literals_from t.now c ++ less_in t d x
+abbrev pub joined_in : List ℤ → Cursor → Cursor → ℕ → List ℕ
+joined_in t c d x = literals_from t c ++ less_in t d x
 
-abbrev pub DeniedIn : List ℕ → Bor (List ℕ) → Bor (List ℕ) → ℕ → Bor (List ℕ) → Bor (List ℕ) → Visit → Type 0
-DeniedIn c f t n f' t' r = Denied c f.now t.now n f'.now t'.now r
+abbrev pub DeniedIn : List ℕ → List ℕ → List ℕ → ℕ → List ℕ → List ℕ → Visit → Type 0
+DeniedIn c f t n f' t' r = Denied c f t n f' t' r
 
-abbrev pub RefutedIn : List (List ℕ) → List ℕ → Bor (List ℕ) → Bor (List ℕ) → ℕ → Bor (List ℕ) → Bor (List ℕ) → Propagated → Type 0
-RefutedIn S c f t n f' t' r = Refuted S c f.now t.now n f'.now t'.now r
+abbrev pub RefutedIn : List (List ℕ) → List ℕ → List ℕ → List ℕ → ℕ → List ℕ → List ℕ → Propagated → Type 0
+RefutedIn S c f t n f' t' r = Refuted S c f t n f' t' r
 
-abbrev pub FollowsIn : List (List ℕ) → List ℕ → Bor (List ℕ) → ℕ → Type 0
-FollowsIn S c t n = Follows S c t.now n
+abbrev pub FollowsIn : List (List ℕ) → List ℕ → List ℕ → ℕ → Type 0
+FollowsIn S c t n = Follows S c t n
 
-abbrev pub TriedIn : Bor (List ℕ) → ℕ → Bor (List ℕ) → Bor (List ℕ) → Type 0
-TriedIn t n f' t' = Tried t.now n f'.now t'.now
+abbrev pub TriedIn : List ℕ → ℕ → List ℕ → List ℕ → Type 0
+TriedIn t n f' t' = Tried t n f' t'
 
-abbrev pub DecidedIn : List (List ℕ) → List ℕ → Bor (List ℕ) → Bor (List ℕ) → Addition → Type 0
-DecidedIn S c f t r = Decided S c f.now t.now r
+abbrev pub DecidedIn : List (List ℕ) → List ℕ → List ℕ → List ℕ → Addition → Type 0
+DecidedIn S c f t r = Decided S c f t r

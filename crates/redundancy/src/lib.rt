@@ -25,9 +25,9 @@ fn deny(
     trail: &mut Trail,
     from: usize,
 ) -> Visit
-    ensures { ReadyIn falses.entry trail.entry from
-        → DeniedIn (less_in table.entry start skip)
-        falses.entry trail.entry from falses.exit trail.exit result }
+    ensures { ReadyIn falses.old trail.old from
+        → DeniedIn (less_in table.now start skip)
+        falses.old trail.old from falses.new trail.new result }
 {
     let mut n = from;
     let mut i = start;
@@ -56,9 +56,9 @@ fn deny_both(
     trail: &mut Trail,
     from: usize,
 ) -> Visit
-    ensures { ReadyIn falses.entry trail.entry from
-        → DeniedIn (joined_in table.entry c d skip)
-        falses.entry trail.entry from falses.exit trail.exit result }
+    ensures { ReadyIn falses.old trail.old from
+        → DeniedIn (joined_in table.now c d skip)
+        falses.old trail.old from falses.new trail.new result }
 {
     match deny(table, c, 0, falses, trail, from) {
         Visit::Conflict(k) => Visit::Conflict(k),
@@ -79,9 +79,9 @@ fn refute(
     d: Cursor,
     skip: u32,
 ) -> Propagated
-    ensures { ReadyIn falses.entry trail.entry from
-        → RefutedIn (standing_in table.entry marks.entry count) (joined_in table.entry c d skip)
-        falses.entry trail.entry from falses.exit trail.exit result }
+    ensures { ReadyIn falses.old trail.old from
+        → RefutedIn (standing_in table.now marks.now count) (joined_in table.now c d skip)
+        falses.old trail.old from falses.new trail.new result }
 {
     match deny_both(table, c, d, skip, falses, trail, from) {
         Visit::Conflict(k) => Propagated::Conflict(k),
@@ -102,10 +102,10 @@ fn candidate(
     d: Cursor,
     skip: u32,
 ) -> bool
-    ensures { ReadyIn falses.entry trail.entry from
-        → FollowsIn (standing_in table.entry marks.entry count) (literals_in table.entry c) trail.entry from
-        → TriedIn trail.entry from falses.exit trail.exit
-        × (result ≡ rup_of (standing_in table.entry marks.entry count) (joined_in table.entry c d skip)) }
+    ensures { ReadyIn falses.old trail.old from
+        → FollowsIn (standing_in table.now marks.now count) (literals_in table.now c) trail.old from
+        → TriedIn trail.old from falses.new trail.new
+        × (result ≡ rup_of (standing_in table.now marks.now count) (joined_in table.now c d skip)) }
 {
     match refute(
         table, marks, count, falses, trail, from, watches, c, d, skip,
@@ -133,10 +133,10 @@ fn each(
     c: Cursor,
     l: u32,
 ) -> bool
-    ensures { ReadyIn falses.entry trail.entry from
-        → FollowsIn (standing_in table.entry marks.entry count) (literals_in table.entry c) trail.entry from
-        → TriedIn trail.entry from falses.exit trail.exit
-        × (result ≡ rat_on (standing_in table.entry marks.entry count) (literals_in table.entry c) l) }
+    ensures { ReadyIn falses.old trail.old from
+        → FollowsIn (standing_in table.now marks.now count) (literals_in table.now c) trail.old from
+        → TriedIn trail.old from falses.new trail.new
+        × (result ≡ rat_on (standing_in table.now marks.now count) (literals_in table.now c) l) }
 {
     let skip = flip(l);
     let mut k = 0;
@@ -175,10 +175,10 @@ fn is_rat(
     watches: &mut Watches,
     c: Cursor,
 ) -> bool
-    ensures { ReadyIn falses.entry trail.entry from
-        → FollowsIn (standing_in table.entry marks.entry count) (literals_in table.entry c) trail.entry from
-        → TriedIn trail.entry from falses.exit trail.exit
-        × (result ≡ rat_of (standing_in table.entry marks.entry count) (literals_in table.entry c)) }
+    ensures { ReadyIn falses.old trail.old from
+        → FollowsIn (standing_in table.now marks.now count) (literals_in table.now c) trail.old from
+        → TriedIn trail.old from falses.new trail.new
+        × (result ≡ rat_of (standing_in table.now marks.now count) (literals_in table.now c)) }
 {
     let l = pivot(table, c);
     if l == 0 {
@@ -198,8 +198,8 @@ pub fn add(
     watches: &mut Watches,
     c: Cursor,
 ) -> Addition
-    ensures { HeldIn (standing_in table.entry marks.entry count) falses.entry trail.entry units.n
-        → DecidedIn (standing_in table.entry marks.entry count) (literals_in table.entry c) falses.exit trail.exit result }
+    ensures { HeldIn (standing_in table.now marks.now count) falses.old trail.old units.n
+        → DecidedIn (standing_in table.now marks.now count) (literals_in table.now c) falses.new trail.new result }
 {
     let from = units.n;
     let q = units.q;

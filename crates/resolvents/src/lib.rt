@@ -27,7 +27,7 @@ pub type Seen = [u8; 65536];
 
 // The codes of the clause are marked.
 fn mark(table: &[i32], start: Cursor, seen: &mut Seen)
-    ensures { seen.new ≡ each (to 1) (literals_in table.entry start) seen.old }
+    ensures { seen.new ≡ each (to 1) (literals_in table.now start) seen.old }
 {
     let mut i = start;
     loop {
@@ -42,8 +42,8 @@ fn mark(table: &[i32], start: Cursor, seen: &mut Seen)
 
 // They are marked no more. Whether each had a parent's sign.
 fn unmark(table: &[i32], start: Cursor, seen: &mut Seen) -> bool
-    ensures { (result ≡ covered seen.old (literals_in table.entry start))
-        × (seen.new ≡ each (to 0) (literals_in table.entry start) seen.old) }
+    ensures { (result ≡ covered seen.old (literals_in table.now start))
+        × (seen.new ≡ each (to 0) (literals_in table.now start) seen.old) }
 {
     let mut all = true;
     let mut i = start;
@@ -86,8 +86,8 @@ fn meet(m: u8, p: u32, y: u32) -> u32
 // The marks of a parent's codes get its sign. The one code of the parent that the clause does not hold; 0 if there is none, SEVERAL if there are more.
 fn stray(table: &[i32], start: Cursor, sign: u8, seen: &mut Seen) -> u32
     requires { sign ≤ 4 }
-    ensures { (result ≡ strayOf (lacks seen.old) (literals_in table.entry start) 0) × (result < 65536)
-        × (seen.new ≡ each (raised sign) (literals_in table.entry start) seen.old) }
+    ensures { (result ≡ strayOf (lacks seen.old) (literals_in table.now start) 0) × (result < 65536)
+        × (seen.new ≡ each (raised sign) (literals_in table.now start) seen.old) }
 {
     let mut p = 0;
     let mut i = start;
@@ -126,7 +126,7 @@ fn is_pivot(x: u32, p: u32, q: u32, seen: &Seen) -> bool
 // Whether some code may. A stray code tells which; where there is none, the clause holds it.
 fn has_pivot(table: &[i32], start: Cursor, p: u32, q: u32, seen: &Seen) -> bool
     requires { (p < 65536) × (q < 65536) }
-    ensures { result ≡ any (pivot (in_all seen.now) p q) (candidates p q (literals_in table.entry start)) }
+    ensures { result ≡ any (pivot (in_all seen.now) p q) (candidates p q (literals_in table.now start)) }
 {
     if p != 0 {
         return is_pivot(p, p, q, seen);
@@ -150,7 +150,7 @@ fn has_pivot(table: &[i32], start: Cursor, p: u32, q: u32, seen: &Seen) -> bool
 // Whether c is the resolvent of d and e on some variable, whichever of them holds it positive.
 pub fn resolves(table: &[i32], c: Cursor, d: Cursor, e: Cursor, seen: &mut Seen) -> bool
     ensures { Clear seen.old
-        → (result ≡ resolvesCodes (literals_in table.entry c) (literals_in table.entry d) (literals_in table.entry e))
+        → (result ≡ resolvesCodes (literals_in table.now c) (literals_in table.now d) (literals_in table.now e))
         × Clear seen.new }
 {
     mark(table, c, seen);

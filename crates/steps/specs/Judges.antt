@@ -1,6 +1,5 @@
 -- Judging what is stored. Assumes nothing.
 use Rattle.std.specs.Prelude.{◌≡◌, List, map, ℕ, ◌<◌, ◌≤◌, max, length, take, ℤ}
-use Rattle.std.specs.Borrow.{Bor}
 use Rattle.rules.specs.Basics.{greatest, is_in}
 use Rattle.rules.specs.Literals.{Lits, vars}
 use Rattle.rules.specs.Codes.{code_of}
@@ -36,12 +35,12 @@ pub record Judges (kind : Lits → CertificateLine) (p : Progress) (n m : ℕ) (
       → Stepped f p k t (kind_judge f s (kind c)) r u v
 
 -- the proof and marks tables as a call has them, among any others
-abbrev pub among : Tables → Bor (List ℤ) → Bor (List ℤ) → Tables
-among t proof marks = tables t.prefix t.matrix t.map proof.now marks.now t.values
+abbrev pub among : Tables → List ℤ → List ℤ → Tables
+among t proof marks = tables t.prefix t.matrix t.map proof marks t.values
 
 -- the values and the trail as a call has them
-abbrev pub beside : Work → Bor (List ℕ) → Bor (List ℕ) → Work
-beside w falses trail = work w.starts w.noted falses.now trail.now
+abbrev pub beside : Work → List ℕ → List ℕ → Work
+beside w falses trail = work w.starts w.noted falses trail
 
 -- THE JUDGE of a deletion, whose n distinct literals are on the emptied trail: c as a set
 pub record Listing (c : Lits) (f t : List ℕ) (n : ℕ) : Type 0 where

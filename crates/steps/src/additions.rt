@@ -73,8 +73,8 @@ pub fn add(
     watches: &mut Watches,
 ) -> Step
     ensures { (t : Tables) (w : Work) → Judges addition p n m
-        (among t proof.entry marks.entry) (beside w falses.entry trail.entry) result
-        (among t proof.entry marks.exit) (beside w falses.exit trail.exit) }
+        (among t proof.now marks.old) (beside w falses.old trail.old) result
+        (among t proof.now marks.new) (beside w falses.new trail.new) }
 {
     if hint_left(p) {
         return Step::Refuse(10);

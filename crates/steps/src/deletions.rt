@@ -43,8 +43,8 @@ pub fn delete(
     falses: &mut Falses,
     trail: &Trail,
 ) -> Step
-    ensures { (t : Tables) (w : Work) → Deletes p n (among t proof.entry marks.entry) (beside w falses.entry trail.entry)
-        result (among t proof.entry marks.exit) (beside w falses.exit trail.entry) }
+    ensures { (t : Tables) (w : Work) → Deletes p n (among t proof.now marks.old) (beside w falses.old trail.now)
+        result (among t proof.now marks.new) (beside w falses.new trail.now) }
 {
     if hint_left(p) {
         return Step::Refuse(10);

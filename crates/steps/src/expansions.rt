@@ -37,7 +37,7 @@ fn fits(
     starts: &Starts,
 ) -> bool
     ensures { result ≡ fits_at p
-        (six prefix.entry matrix.entry map.entry proof.entry marks.entry values.entry) starts.now }
+        (six prefix.now matrix.now map.now proof.now marks.now values.now) starts.now }
 {
     let mut seen = [0u8; CODES];
     let mut held = [0u16; CODES];
@@ -71,8 +71,8 @@ fn rule_broken(
     trail: &Trail,
 ) -> u32
     ensures { result ≡ rule_broken p
-        (six prefix.entry matrix.entry map.entry proof.entry marks.entry values.entry)
-        (four starts.entry noted.entry falses.entry trail.entry) }
+        (six prefix.now matrix.now map.now proof.now marks.now values.now)
+        (four starts.now noted.now falses.now trail.now) }
 {
     let store = p.store;
     if unmapped::all_mapped(proof, clauses::pending(store), noted) {
@@ -115,10 +115,10 @@ pub fn expand(
     watches: &mut Watches,
 ) -> Step
     ensures { Judges expansion p n m
-        (six prefix.entry matrix.entry map.entry proof.entry marks.entry values.entry)
-        (four starts.entry noted.entry falses.entry trail.entry) result
-        (six prefix.entry matrix.entry map.entry proof.entry marks.exit values.entry)
-        (four starts.entry noted.entry falses.exit trail.exit) }
+        (six prefix.now matrix.now map.now proof.now marks.old values.now)
+        (four starts.now noted.now falses.old trail.old) result
+        (six prefix.now matrix.now map.now proof.now marks.new values.now)
+        (four starts.now noted.now falses.new trail.new) }
 {
     let k = rule_broken(
         p, n, prefix, matrix, map, proof, marks, values, starts, noted, falses, trail,

@@ -1,6 +1,5 @@
 -- The six tables, and what they keep. Assumes nothing.
 use Rattle.std.specs.Prelude.{List, length, replicate, ℤ, pos}
-use Rattle.std.specs.Borrow.{Bor}
 use Rattle.cells.specs.Cells.{Kept}
 use Rattle.rules.specs.Needs.{Places, places}
 
@@ -20,8 +19,8 @@ lengths_of t =
     places (length t.prefix) (length t.matrix) (length t.map) (length t.proof) (length t.marks) (length t.values)
 
 -- the six as a call has them
-abbrev pub six : Bor (List ℤ) → Bor (List ℤ) → Bor (List ℤ) → Bor (List ℤ) → Bor (List ℤ) → Bor (List ℤ) → Tables
-six a b c d e f = tables a.now b.now c.now d.now e.now f.now
+abbrev pub six : List ℤ → List ℤ → List ℤ → List ℤ → List ℤ → List ℤ → Tables
+six a b c d e f = tables a b c d e f
 
 -- tables of zeros of these lengths
 abbrev pub zeros : Places → Tables

@@ -1,6 +1,5 @@
 -- What the contracts of the trail say. A literal is its code; it is false where f has no 0 at its code. Assumes nothing.
 use Rattle.std.specs.Prelude.{◌≡◌, ◌⊎◌, Bool, true, false, cond, not, List, [], ◌∷◌, ℕ, ◌+◌, ◌≤◌, ◌<◌, eqb, length, get_or, set}
-use Rattle.std.specs.Borrow.{Bor}
 use Rattle.rules.specs.Codes.{flip}
 
 -- VALUES
@@ -40,17 +39,17 @@ pub record Undone (f t : List ℕ) (base : ℕ) (f' : List ℕ) : Type 0 where
   pub fewer : (l : ℕ) → off f' l ≡ true → off f l ≡ true
 
 -- AS THE REFERENCES OF A CALL SHOW THEM
-abbrev pub ShapeIn : Bor (List ℕ) → ℕ → Type 0
-ShapeIn f n = Shape f.now n
+abbrev pub ShapeIn : List ℕ → ℕ → Type 0
+ShapeIn f n = Shape f n
 
-abbrev pub TrailedIn : Bor (List ℕ) → Bor (List ℕ) → ℕ → Type 0
-TrailedIn f t n = Trailed f.now t.now n
+abbrev pub TrailedIn : List ℕ → List ℕ → ℕ → Type 0
+TrailedIn f t n = Trailed f t n
 
-abbrev pub ReadyIn : Bor (List ℕ) → Bor (List ℕ) → ℕ → Type 0
-ReadyIn f t n = Ready f.now t.now n
+abbrev pub ReadyIn : List ℕ → List ℕ → ℕ → Type 0
+ReadyIn f t n = Ready f t n
 
-abbrev pub AssumedIn : Bor (List ℕ) → Bor (List ℕ) → ℕ → ℕ → Bor (List ℕ) → Bor (List ℕ) → ℕ → Type 0
-AssumedIn f t n l f' t' r = Assumed f.now t.now n l f'.now t'.now r
+abbrev pub AssumedIn : List ℕ → List ℕ → ℕ → ℕ → List ℕ → List ℕ → ℕ → Type 0
+AssumedIn f t n l f' t' r = Assumed f t n l f' t' r
 
-abbrev pub UndoneIn : Bor (List ℕ) → Bor (List ℕ) → ℕ → Bor (List ℕ) → Type 0
-UndoneIn f t base f' = Undone f.now t.now base f'.now
+abbrev pub UndoneIn : List ℕ → List ℕ → ℕ → List ℕ → Type 0
+UndoneIn f t base f' = Undone f t base f'

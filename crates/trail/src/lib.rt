@@ -49,8 +49,8 @@ pub fn is_true(falses: &Falses, l: u32) -> bool
 
 // The literal l is false from now on; the trail's length.
 pub fn assume(falses: &mut Falses, trail: &mut Trail, n: usize, l: u32) -> usize
-    ensures { ShapeIn falses.entry n → (l < 65536)
-        → AssumedIn falses.entry trail.entry n l falses.exit trail.exit result }
+    ensures { ShapeIn falses.old n → (l < 65536)
+        → AssumedIn falses.old trail.old n l falses.new trail.new result }
 {
     let i = wide(l % 65536);
     if falses[i] != 0 {
@@ -66,16 +66,16 @@ pub fn assume(falses: &mut Falses, trail: &mut Trail, n: usize, l: u32) -> usize
 
 // The literal l is true from now on; the trail's length.
 pub fn make_true(falses: &mut Falses, trail: &mut Trail, n: usize, l: u32) -> usize
-    ensures { ShapeIn falses.entry n → (l < 65536)
-        → AssumedIn falses.entry trail.entry n (negation l) falses.exit trail.exit result }
+    ensures { ShapeIn falses.old n → (l < 65536)
+        → AssumedIn falses.old trail.old n (negation l) falses.new trail.new result }
 {
     assume(falses, trail, n, flip(l))
 }
 
 // Takes back what the trail has from place base on.
 pub fn undo(falses: &mut Falses, trail: &Trail, from: usize, base: usize)
-    ensures { TrailedIn falses.entry trail.entry from → (base ≤ from)
-        → UndoneIn falses.entry trail.entry base falses.exit }
+    ensures { TrailedIn falses.old trail.now from → (base ≤ from)
+        → UndoneIn falses.old trail.now base falses.new }
 {
     let mut n = within(from);
     while base < n {

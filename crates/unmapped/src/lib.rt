@@ -9,7 +9,7 @@ use mapped::Noted;
 
 // Whether all copies of a clause, from a literal of it on, are mapped.
 pub fn all_mapped(proof: &[i32], from: Cursor, noted: &Noted) -> bool
-    ensures { result ≡ all_mapped noted.now (literals_in proof.entry from) }
+    ensures { result ≡ all_mapped noted.now (literals_in proof.now from) }
 {
     let mut c = from;
     loop {

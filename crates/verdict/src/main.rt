@@ -38,8 +38,8 @@ fn report_of(
     values: &mut [i32],
 ) -> Report
     ensures { ReportedIn formula.now certificate.now
-        (six prefix.entry matrix.entry map.entry proof.entry marks.entry values.entry) result
-        (six prefix.exit matrix.exit map.exit proof.exit marks.exit values.exit) }
+        (six prefix.old matrix.old map.old proof.old marks.old values.old) result
+        (six prefix.new matrix.new map.new proof.new marks.new values.new) }
 {
     if FORMULA < formula.len() {
         return refused_early(1, 1, 0);
@@ -85,8 +85,8 @@ fn verdict_line(
     out: &mut [u8; 96],
 ) -> usize
     ensures { Printed formula.now f certificate.now c
-        (six prefix.entry matrix.entry map.entry proof.entry marks.entry values.entry) out.old
-        (six prefix.exit matrix.exit map.exit proof.exit marks.exit values.exit) out.new result }
+        (six prefix.old matrix.old map.old proof.old marks.old values.old) out.old
+        (six prefix.new matrix.new map.new proof.new marks.new values.new) out.new result }
 {
     let formula_bytes = first(formula, f);
     let certificate_bytes = first(certificate, c);
