@@ -44,7 +44,7 @@ fn part_size(prefix: &[i32], held: &[u16], n: usize, e: usize) -> usize
 
 // The same, with one more than the size noted for each existential that has a place in `sizes`; 0 is noted where it was not counted yet.
 fn size_of(sizes: &mut [u16], prefix: &[i32], held: &[u16], n: usize, e: usize) -> usize
-    requires { (n ≤ 8194) × Noted (part_size (words prefix) (listed held.now n)) sizes.old }
+    requires { (n ≤ 8194) × Noted (part_size (words prefix.now) (listed held.now n)) sizes.old }
     ensures { (result ≡ part_size (words prefix.now) (listed held.now n) e)
         × Noted (part_size (words prefix.now) (listed held.now n)) sizes.new }
 {
@@ -62,7 +62,7 @@ fn size_of(sizes: &mut [u16], prefix: &[i32], held: &[u16], n: usize, e: usize) 
 
 // Whether `long` literals within e's part of t are all of it.
 fn is_part(sizes: &mut [u16], prefix: &[i32], held: &[u16], n: usize, e: usize, long: usize) -> bool
-    requires { (n ≤ 8194) × Noted (part_size (words prefix) (listed held.now n)) sizes.old }
+    requires { (n ≤ 8194) × Noted (part_size (words prefix.now) (listed held.now n)) sizes.old }
     ensures { (result ≡ is_part (words prefix.now) (listed held.now n) e long)
         × Noted (part_size (words prefix.now) (listed held.now n)) sizes.new }
 {
@@ -88,7 +88,7 @@ fn length_at(map: &[i32], a: usize) -> usize
 
 // The same where there are `long` from place `last` on: copies of one mapping line share the place of their annotation.
 fn length_next(map: &[i32], last: usize, long: usize, a: usize) -> usize
-    requires { long ≡ length (list_in map last) }
+    requires { long ≡ length (list_in map.now last) }
     ensures { result ≡ length (list_in map.now a) }
 {
     if a == last {
@@ -108,7 +108,7 @@ fn copies_fit(
     held: &[u16],
     n: usize,
 ) -> bool
-    requires { (n ≤ 8194) × Noted (part_size (words prefix) (listed held.now n)) sizes.old }
+    requires { (n ≤ 8194) × Noted (part_size (words prefix.now) (listed held.now n)) sizes.old }
     ensures { result ≡ all (copy_fits (words prefix.now) (stands_in values.now map.now)
         (annotation_in values.now map.now) (listed held.now n)) (list_in proof.now l) }
 {

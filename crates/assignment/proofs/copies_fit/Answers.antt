@@ -31,7 +31,7 @@ pub loop-l-smaller : goal.loop-l-smaller
 loop-l-smaller c = let h = inside _ _ c.code-x.ensures.0 c.if-x-eq0.false in omega arith
 
 pub loop-l-preserved : goal.loop-l-preserved
-loop-l-preserved c = (c.is_part.auto.0 ∙ c.loop-l.invariant.0, c.is_part.ensures.1, c.length_next-long.ensures, c.loop-l.invariant.3 ∙ all_next _ _ c.code-x.ensures.0 _ c.if-x-eq0.false (copy_is _ _ _ _ _ _ c.annotation_at-a.ensures c.stands-e.ensures.0 c.length_next-long.ensures c.is_part.ensures.0 c.if-is_part.true))
+loop-l-preserved c = (c.is_part.auto.sizes ∙ c.loop-l.invariant.0, c.is_part.ensures.1, c.length_next-long.ensures, c.loop-l.invariant.3 ∙ all_next _ _ c.code-x.ensures.0 _ c.if-x-eq0.false (copy_is _ _ _ _ _ _ c.annotation_at-a.ensures c.stands-e.ensures.0 c.length_next-long.ensures c.is_part.ensures.0 c.if-is_part.true))
 
 pub returns-else-is_part : goal.returns-else-is_part
 returns-else-is_part c = sym (c.loop-l.invariant.3 ∙ all_fail _ _ c.code-x.ensures.0 _ c.if-x-eq0.false (copy_is _ _ _ _ _ _ c.annotation_at-a.ensures c.stands-e.ensures.0 c.length_next-long.ensures c.is_part.ensures.0 c.if-is_part.false))

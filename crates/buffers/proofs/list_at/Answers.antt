@@ -23,4 +23,4 @@ pub loop-x-smaller : goal.loop-x-smaller
 loop-x-smaller c = let w = on_the_way _ c.loop-x.i (sym c.token.ensures ∙ c.in-Of.is) in omega arith
 
 pub loop-x-preserved : goal.loop-x-preserved
-loop-x-preserved c = let w = on_the_way _ c.loop-x.i (sym c.token.ensures ∙ c.in-Of.is) in (omega (arith, c.loop-x.invariant.0), turn_more _ _ c.loop-x.i c.loop-x.s c.loop-x.n c.loop-x.m c.loop-x.invariant.1 (sym c.token.ensures ∙ c.in-Of.is) c.if-x-eq0.false c.larger-s.ensures c.larger-m.ensures, keeping_more c.loop-x.invariant.2 (sym c.token.ensures ∙ c.in-Of.is) c.keep.ensures c.if-x-eq0.false, c.keep.auto.0 ∙ c.loop-x.invariant.3)
+loop-x-preserved c = let w = on_the_way _ c.loop-x.i (sym c.token.ensures ∙ c.in-Of.is) in (omega (arith, c.loop-x.invariant.0), turn_more _ _ c.loop-x.i c.loop-x.s c.loop-x.n c.loop-x.m c.loop-x.invariant.1 (sym c.token.ensures ∙ c.in-Of.is) c.if-x-eq0.false c.larger-s.ensures c.larger-m.ensures, keeping_more c.loop-x.invariant.2 (sym c.token.ensures ∙ c.in-Of.is) c.keep.ensures c.if-x-eq0.false, c.keep.auto.buffer ∙ c.loop-x.invariant.3)

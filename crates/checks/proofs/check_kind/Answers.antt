@@ -10,4 +10,4 @@ pub returns-then-kind-eq-FERP : goal.returns-then-kind-eq-FERP
 returns-then-kind-eq-FERP c = ran_ferp _ _ c.if-kind-eq-FERAT.false c.if-kind-eq-FERP.true c.check-then-kind-eq-FERP.ensures
 
 pub returns : goal.returns
-returns c = ran_none _ _ (six c.args.prefix c.args.matrix c.args.map c.args.proof c.args.marks c.args.values) c.if-kind-eq-FERAT.false c.if-kind-eq-FERP.false
+returns c = ran_none _ _ (six c.args.prefix.now c.args.matrix.now c.args.map.now c.args.proof.now c.args.marks.now c.args.values.now) c.if-kind-eq-FERAT.false c.if-kind-eq-FERP.false

@@ -16,7 +16,7 @@ pub loop-place-smaller-then-is_there : goal.loop-place-smaller-then-is_there
 loop-place-smaller-then-is_there c = omega (arith, c.loop-place-test.true)
 
 pub loop-place-preserved-then-is_there : goal.loop-place-preserved-then-is_there
-loop-place-preserved-then-is_there c = (c.remove.auto.0 ∙ c.loop-place.invariant.0, λ l. taking_at _ _ _ _ _ _ c.loop-place-test.true _ (c.is_there.ensures l) _ (c.loop-place.invariant.1 l) c.if-is_there.true c.remove.ensures)
+loop-place-preserved-then-is_there c = (c.remove.auto.marks ∙ c.loop-place.invariant.0, λ l. taking_at _ _ _ _ _ _ c.loop-place-test.true _ (c.is_there.ensures l) _ (c.loop-place.invariant.1 l) c.if-is_there.true c.remove.ensures)
 
 pub loop-place-smaller : goal.loop-place-smaller
 loop-place-smaller c = omega (arith, c.loop-place-test.true, c.candidate-place-else-is_there.ensures.0)

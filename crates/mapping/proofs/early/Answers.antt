@@ -17,4 +17,4 @@ returns-then-in_turn c = sym (ap₂ (λ x y. cond x (cond y (cond c.args.room 0 
 
 pub returns : goal.returns
 unfolding early
-returns c = sym (ap (λ x. cond x (cond c.args.in-range (cond c.args.room 0 15) 3) 2) c.if-in_turn.false)
+returns c = sym (ap (λ x. cond x (cond c.args.in_range (cond c.args.room 0 15) 3) 2) c.if-in_turn.false)

@@ -31,27 +31,27 @@ returns-then-n-ne0 c = let o = mapping_told _ _ c.mapping_at.ensures c.in-Lists.
 pub returns-then-p-ne0 : goal.returns-then-p-ne0
 returns-then-p-ne0 c = let o = mapping_told _ _ c.mapping_at.ensures c.in-Lists.is in
     let passed = line_passed o c.args.in_turn c.args.v c.args.state c.args.prefix.now
-    (lent c.args.map c.args.values c.args.noted) c.larger-high.ensures
+    (lent c.args.map.now c.args.values.now c.args.noted.now) c.larger-high.ensures
     c.roomy-room.ensures c.ranged.ensures c.early-n.ensures c.if-n-ne0.false in
     line_taken o _ _ _ _ _ passed c.fresh-p.ensures c.if-p-ne0.true
 
 pub returns-then-q-ne0 : goal.returns-then-q-ne0
 returns-then-q-ne0 c = let o = mapping_told _ _ c.mapping_at.ensures c.in-Lists.is in
     let passed = line_passed o c.args.in_turn c.args.v c.args.state c.args.prefix.now
-    (lent c.args.map c.args.values c.args.noted) c.larger-high.ensures
+    (lent c.args.map.now c.args.values.now c.args.noted.now) c.larger-high.ensures
     c.roomy-room.ensures c.ranged.ensures c.early-n.ensures c.if-n-ne0.false in
     line_unfit o _ _ _ _ _ passed c.fresh-p.ensures c.if-p-ne0.false c.annotates-q.ensures c.if-q-ne0.true
 
 pub returns-then-z-ne0 : goal.returns-then-z-ne0
 returns-then-z-ne0 c = let o = mapping_told _ _ c.mapping_at.ensures c.in-Lists.is in
     let passed = line_passed o c.args.in_turn c.args.v c.args.state c.args.prefix.now
-    (lent c.args.map c.args.values c.args.noted) c.larger-high.ensures
+    (lent c.args.map.now c.args.values.now c.args.noted.now) c.larger-high.ensures
     c.roomy-room.ensures c.ranged.ensures c.early-n.ensures c.if-n-ne0.false in
     absurd (c.if-z-ne0.true (line_stored o _ _ _ _ _ passed c.fresh-p.ensures c.if-p-ne0.false c.annotates-q.ensures c.if-q-ne0.false c.store-z.ensures))
 
 pub returns : goal.returns
 returns c = let o = mapping_told _ _ c.mapping_at.ensures c.in-Lists.is in
     let passed = line_passed o c.args.in_turn c.args.v c.args.state c.args.prefix.now
-    (lent c.args.map c.args.values c.args.noted) c.larger-high.ensures
+    (lent c.args.map.now c.args.values.now c.args.noted.now) c.larger-high.ensures
     c.roomy-room.ensures c.ranged.ensures c.early-n.ensures c.if-n-ne0.false in
-    line_good o _ _ _ _ _ passed c.fresh-p.ensures c.if-p-ne0.false c.annotates-q.ensures c.if-q-ne0.false c.store-z.ensures c.larger-high.ensures (same-length-3 c) (same-length-4 c)
+    line_good o _ _ _ _ _ passed c.fresh-p.ensures c.if-p-ne0.false c.annotates-q.ensures c.if-q-ne0.false c.store-z.ensures c.larger-high.ensures c.store-z.auto.map c.store-z.auto.values

@@ -24,4 +24,4 @@ pub loop-n-smaller : goal.loop-n-smaller
 loop-n-smaller c = let h = inside _ _ c.code-y.ensures.0 c.if-y-eq0.false in omega arith
 
 pub loop-n-preserved : goal.loop-n-preserved
-loop-n-preserved c = (c.add-k.ensures.0, c.add-k.auto.0 ∙ c.loop-n.invariant.1, omega (arith, c.add-k.auto.1, c.loop-n.invariant.2), λ h. let v = c.loop-n.invariant.3 h in let a = c.add-k.ensures.1 v.0 in (a.held, join_turn _ _ _ _ c.code-y.ensures.0 v.1 c.if-y-eq0.false a.codes))
+loop-n-preserved c = (c.add-k.ensures.0, c.add-k.auto.seen ∙ c.loop-n.invariant.1, omega (arith, c.add-k.auto.held, c.loop-n.invariant.2), λ h. let v = c.loop-n.invariant.3 h in let a = c.add-k.ensures.1 v.0 in (a.held, join_turn _ _ _ _ c.code-y.ensures.0 v.1 c.if-y-eq0.false a.codes))

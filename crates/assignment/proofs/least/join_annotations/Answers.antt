@@ -26,4 +26,4 @@ pub loop-n-smaller : goal.loop-n-smaller
 loop-n-smaller c = let h = inside _ _ c.code-x.ensures.0 c.if-x-eq0.false in omega arith
 
 pub loop-n-preserved : goal.loop-n-preserved
-loop-n-preserved c = (c.join_next-k.ensures.0, c.join_next-k.auto.0 ∙ c.loop-n.invariant.1, omega (arith, c.join_next-k.auto.1, c.loop-n.invariant.2), λ h. let v = c.loop-n.invariant.3 h in let a = c.join_next-k.ensures.1 v.0 v.1 in let t = notes_turn _ _ _ _ _ _ c.code-x.ensures.0 v.2 c.if-x-eq0.false c.annotation_at-a.ensures a.codes in (a.held, t.0, t.1))
+loop-n-preserved c = (c.join_next-k.ensures.0, c.join_next-k.auto.seen ∙ c.loop-n.invariant.1, omega (arith, c.join_next-k.auto.held, c.loop-n.invariant.2), λ h. let v = c.loop-n.invariant.3 h in let a = c.join_next-k.ensures.1 v.0 v.1 in let t = notes_turn _ _ _ _ _ _ c.code-x.ensures.0 v.2 c.if-x-eq0.false c.annotation_at-a.ensures a.codes in (a.held, t.0, t.1))

@@ -26,4 +26,4 @@ pub loop-n-smaller : goal.loop-n-smaller
 loop-n-smaller c = let h = inside _ _ c.code-y.ensures.0 c.if-y-eq0.false in omega arith
 
 pub loop-n-preserved : goal.loop-n-preserved
-loop-n-preserved c = (c.join_negation-k.ensures.0, c.join_negation-k.auto.0 ∙ c.loop-n.invariant.1, omega (arith, c.join_negation-k.auto.1, c.loop-n.invariant.2), λ h. let v = c.loop-n.invariant.3 h in let a = c.join_negation-k.ensures.1 v.0 in (a.held, negations_turn _ _ _ _ _ c.code-y.ensures.0 v.1 c.if-y-eq0.false a.codes))
+loop-n-preserved c = (c.join_negation-k.ensures.0, c.join_negation-k.auto.seen ∙ c.loop-n.invariant.1, omega (arith, c.join_negation-k.auto.held, c.loop-n.invariant.2), λ h. let v = c.loop-n.invariant.3 h in let a = c.join_negation-k.ensures.1 v.0 in (a.held, negations_turn _ _ _ _ _ c.code-y.ensures.0 v.1 c.if-y-eq0.false a.codes))
