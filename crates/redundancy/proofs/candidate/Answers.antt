@@ -13,4 +13,4 @@ pub returns-in-Stable : goal.returns-in-Stable
 returns-in-Stable c = λ r h.
     let a = c.args in
     let v = refuted_good _ c.in-Stable.is (c.refute.ensures r) in
-    tried_good _ (literals_from a.table.now a.c) (less_in a.table a.d a.skip) (c.undo-in-Stable.ensures v.0.ready.trailed v.0.up) v
+    tried_good _ (literals_from a.table.now a.c) (less_in a.table.now a.d a.skip) (c.undo-in-Stable.ensures v.0.ready.trailed v.0.up) v

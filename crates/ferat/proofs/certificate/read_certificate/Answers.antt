@@ -42,5 +42,5 @@ pub loop-t-smaller : goal.loop-t-smaller
 loop-t-smaller c = midway_less ferat_apt c.loop-t.invariant c.line_end-e.ensures c.if-certificate-e.false
 
 pub loop-t-preserved : goal.loop-t-preserved
-loop-t-preserved c = let k = c.certificate_line.auto.1.1.1.1 in
-    midway_next ferat_apt c.loop-t.invariant c.line_end-e.ensures c.requires _ _ c.certificate_line.ensures _ (ap answer_of c.in-Next.is) c.if-certificate-e.false (k.0, k.1.0, k.1.1.0, k.1.1.1.0)
+loop-t-preserved c = let k = c.certificate_line.auto in
+    midway_next ferat_apt c.loop-t.invariant c.line_end-e.ensures c.requires _ _ c.certificate_line.ensures _ (ap answer_of c.in-Next.is) c.if-certificate-e.false (k.map, k.proof, k.marks, k.values)

@@ -43,4 +43,5 @@ pub loop-t-smaller : goal.loop-t-smaller
 loop-t-smaller c = midway_less ferp_apt c.loop-t.invariant.0 c.line_end-e.ensures c.if-certificate-e.false
 
 pub loop-t-preserved : goal.loop-t-preserved
-loop-t-preserved c = let k = c.certificate_line.auto.1.1.1.1 in (midway_next ferp_apt c.loop-t.invariant.0 c.line_end-e.ensures c.requires.0 _ _ c.certificate_line.ensures _ (ap answer_of c.in-Next.is) c.if-certificate-e.false (k.0, k.1.0, k.1.1.0, k.1.1.1.0), c.certificate_line.auto.1.1.1.1.1.1.1.1.1.1.1.1.0 ∙ c.loop-t.invariant.1, c.certificate_line.auto.1.1.1.1.1.1.1.1.1.1.1.1.1.0 ∙ c.loop-t.invariant.2)
+loop-t-preserved c = let k = c.certificate_line.auto in
+    (midway_next ferp_apt c.loop-t.invariant.0 c.line_end-e.ensures c.requires.0 _ _ c.certificate_line.ensures _ (ap answer_of c.in-Next.is) c.if-certificate-e.false (k.map, k.proof, k.marks, k.values), k.held ∙ c.loop-t.invariant.1, k.buffer ∙ c.loop-t.invariant.2)
