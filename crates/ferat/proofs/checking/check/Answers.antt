@@ -13,8 +13,8 @@ check_certificate-requires c = c.if-certificate-gt-BYTES.false
 
 pub returns-in-Refused : goal.returns-in-Refused
 returns-in-Refused c = let a = c.args in
-    formula_refused _ _ (six a.prefix a.matrix a.map a.proof a.marks a.values) c.if-formula-gt-BYTES.false c.if-certificate-gt-BYTES.false _ _ c.read_formula.ensures _ _ c.in-Refused.is _ c.refused_early-in-Refused.ensures
+    formula_refused _ _ (six a.prefix.now a.matrix.now a.map.now a.proof.now a.marks.now a.values.now) c.if-formula-gt-BYTES.false c.if-certificate-gt-BYTES.false _ _ c.read_formula.ensures _ _ c.in-Refused.is _ c.refused_early-in-Refused.ensures
 
 pub returns-in-Done : goal.returns-in-Done
 returns-in-Done c = let a = c.args in
-    certificate_checked _ _ (six a.prefix a.matrix a.map a.proof a.marks a.values) c.if-formula-gt-BYTES.false c.if-certificate-gt-BYTES.false _ _ c.read_formula.ensures _ c.in-Done.is _ _ c.check_certificate.ensures _ c.report_of.ensures
+    certificate_checked _ _ (six a.prefix.now a.matrix.now a.map.now a.proof.now a.marks.now a.values.now) c.if-formula-gt-BYTES.false c.if-certificate-gt-BYTES.false _ _ c.read_formula.ensures _ c.in-Done.is _ _ c.check_certificate.ensures _ c.report_of.ensures

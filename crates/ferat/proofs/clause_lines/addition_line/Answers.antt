@@ -15,4 +15,4 @@ returns-in_default-store_line c = λ t w. absurd (clause_ended _ _ (sym c.clause
 
 pub returns : goal.returns
 returns c = let a = c.args in
-    λ t w. clause_judged additions _ _ _ _ _ (sym c.clause_at.ensures ∙ c.in-Good.is) (λ f s sh. addition_turn s _) c.limit_broken-k.ensures c.if-k-ne0.false _ c.store_line.ensures.0 (c.add.ensures (with_three t a.proof a.marks a.values) w)
+    λ t w. clause_judged additions _ _ _ _ _ (sym c.clause_at.ensures ∙ c.in-Good.is) (λ f s sh. addition_turn s _) c.limit_broken-k.ensures c.if-k-ne0.false _ c.store_line.ensures.0 (c.add.ensures (with_three t a.proof.now a.marks.now a.values.now) w)
