@@ -148,11 +148,23 @@ def main():
                 out.write(f"{n} {both[n]}\n")
 
 
+def of_libraries(text, own):
+    """The names that a file has from the kit's libraries: they keep their spelling there."""
+    names = set()
+    for m in re.finditer(r"(?m)^(?:ghost )?(?:pub )?use ([^\n{;]+?)(?:\.\{([^}]*)\})?;?$", text):
+        way = re.match(r"Rattle\.(\w+)", m.group(1))
+        if not way or way.group(1) not in own:
+            names |= {w for part in (m.group(2) or "").split(",") for w in part.strip().split(" as ")}
+    return names
+
+
 def turn(paths, names):
+    own = {os.path.basename(f) for f in glob.glob("crates/*")}
     pattern = re.compile(r"(?<![^%s])(%s)(?![^%s])" % (STOP, "|".join(re.escape(n) for n in sorted(names, key=len, reverse=True)), STOP))
     for f in paths:
         text = open(f, encoding="utf-8").read()
-        new = pattern.sub(lambda m: names[m.group(1)], text)
+        kept = of_libraries(text, own)
+        new = pattern.sub(lambda m: m.group(1) if m.group(1) in kept else names[m.group(1)], text)
         if new != text:
             open(f, "w", encoding="utf-8").write(new)
 

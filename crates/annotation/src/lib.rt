@@ -1,5 +1,6 @@
 // Rule 8: existentials, and an annotation for them. A refusal is 8, 2 at a token that is no literal, 0 for none.
 #![tactic(auto)]
+
 ghost use Rattle.std.specs.Prelude.{◌≡◌, true};
 ghost use Rattle.lines.specs.Lists.{all};
 ghost use Rattle.prefix.specs.Prefix.{entry};

@@ -1,5 +1,6 @@
 // The annotations of the line's copies against the least t: each as long as the part of t that the copy's existential depends on.
 #![tactic(auto)]
+
 mod least;
 
 ghost use Rattle.std.specs.Prelude.{◌≡◌, [], ◌∷◌, cond, false, ◌+◌, ◌<◌, ◌≤◌, length};

@@ -1,5 +1,6 @@
 // A list of a line that is read once: the pass that measures it keeps its codes in a buffer, and they are stored from there.
 #![tactic(auto)]
+
 ghost use Rattle.std.specs.Prelude.{◌≡◌, ◌+◌, ◌≤◌, ◌<◌, length, set};
 ghost use Rattle.std.proofs.lemmas.List.Edits.{sets};
 ghost use Rattle.lines.specs.Scan.{literal_at};

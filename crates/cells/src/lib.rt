@@ -1,5 +1,6 @@
 // The places of a table of 32-bit signed numbers, read and written as natural numbers.
 #![tactic(auto)]
+
 ghost use Rattle.std.specs.Prelude.{◌≡◌, ◌%◌, ◌<◌, max, set, pos};
 ghost use Rattle.cells.specs.Cells.{cell_at, code_at};
 

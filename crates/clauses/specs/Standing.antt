@@ -117,7 +117,7 @@ has_empty S = any is_empty (literals S)
 abbrev pub empty_at : List ℤ → List ℤ → ℕ → Bool
 empty_at t ms k = stands t ms k && is_empty (clause_at t ms k)
 
--- AS THE REFERENCES OF A CALL SHOW THEM
+-- AS CONTRACTS NAME THEM
 abbrev pub stands_in : List ℤ → List ℤ → ℕ → Bool
 stands_in t ms k = stands t ms k
 

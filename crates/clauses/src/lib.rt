@@ -1,5 +1,6 @@
 // The clauses of a certificate in the proof and marks tables. This crate alone knows how they stand there; a clause is named by its place.
 #![tactic(auto)]
+
 ghost use Rattle.std.specs.Prelude.{◌≡◌, [], ◌+◌, ◌<◌};
 ghost use Rattle.rules.specs.Basics.{is_in};
 ghost use Rattle.lists.specs.Stores.{ending_at};

@@ -1,5 +1,6 @@
 // What the values and the map say of a copy.
 #![tactic(auto)]
+
 pub mod marks;
 pub mod read;
 

@@ -37,7 +37,7 @@ pub record Deleted (c : List ℕ) (t ms ms' : List ℤ) (count : ℕ) (r : Bool)
   pub answer : r ≡ any (same_set (map lit_of c)) (literals (standing t ms count))
   pub standing_then : literals (standing t ms' count) ≡ without_first (same_set (map lit_of c)) (literals (standing t ms count))
 
--- AS THE REFERENCES OF A CALL SHOW THEM
+-- AS CONTRACTS NAME THEM
 abbrev pub ListedIn : List ℕ → List ℕ → ℕ → Type 0
 ListedIn f t n = Listed f t n
 

@@ -1,5 +1,6 @@
 // What is carried from line to line of a FERP certificate, and the judging of its clause lines once they are stored.
 #![tactic(auto)]
+
 mod judging;
 mod limits;
 

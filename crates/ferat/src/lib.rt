@@ -1,5 +1,6 @@
 // The check of a FERAT certificate: its text, line by line, and both files.
 #![tactic(auto)]
+
 mod certificate;
 mod checking;
 mod clause_lines;

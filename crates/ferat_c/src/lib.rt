@@ -1,5 +1,6 @@
 // The library for other languages: the checks, the list of checks and the call for a line's bytes.
 #![tactic(auto)]
+
 mod check;
 mod check_ferp;
 mod line;

@@ -1,5 +1,6 @@
 // The text of a FERP clause line, `index literals 0 n 0` or `index literals 0 a b 0`: a first pass that writes nothing.
 #![tactic(auto)]
+
 ghost use Rattle.std.specs.Prelude.{◌≡◌};
 ghost use Rattle.ferp_forms.specs.Forms.{closed_at, reason_at, Derives};
 

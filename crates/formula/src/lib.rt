@@ -1,5 +1,6 @@
 // The formula read into its two tables.
 #![tactic(auto)]
+
 ghost use Rattle.std.specs.Prelude.{◌≡◌, ◌+◌, ◌≤◌, length};
 ghost use Rattle.lines.specs.Scan.{head_of};
 ghost use Rattle.formula.specs.Kinds.{letter_kind, kind_of};

@@ -1,5 +1,6 @@
 // Reading a formula, with C's calling convention.
 #![tactic(auto)]
+
 ghost use Rattle.std.specs.Prelude.{◌≡◌};
 ghost use Rattle.formula_c.specs.Packed.{packed, Read};
 

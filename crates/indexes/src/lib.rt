@@ -1,5 +1,6 @@
 // Which clause has which index: found in one step.
 #![tactic(auto)]
+
 ghost use Rattle.std.specs.Prelude.{◌≡◌};
 ghost use Rattle.indexes.specs.Shown.{place_at, noted};
 

@@ -1,5 +1,6 @@
 // Bytes, lines, tokens and numbers of a file; the call for a line's bytes.
 #![tactic(auto)]
+
 ghost use Rattle.std.specs.Prelude.{◌≡◌, true, false, cond, ℕ, ◌+◌, ◌*◌, ◌-◌, ◌<◌, ◌≤◌, min, eqb, length, take, drop, get_or};
 ghost use Rattle.lines.specs.declared.Digits.{Digits};
 ghost use Rattle.lines.specs.declared.Literal.{Literal};

@@ -1,5 +1,6 @@
 // Reading alone, with C's calling convention: every line of a file is read, and the literals that it begins with; kept is the largest of them alone.
 #![tactic(auto)]
+
 ghost use Rattle.std.specs.Prelude.{◌≡◌};
 ghost use Rattle.lines.specs.Lines.{read_line, lines_of};
 ghost use Rattle.lines.specs.Scan.{tokens_from};

@@ -1,5 +1,6 @@
 // The numbers and the lists of a line, literals up to a zero: a first pass that writes nothing, and a second that stores a list in a table.
 #![tactic(auto)]
+
 ghost use Rattle.std.specs.Prelude.{◌≡◌, ◌+◌, min, max};
 ghost use Rattle.lists.specs.Lists.{natural_at, listed_at, clause_at, mapping_at};
 ghost use Rattle.lists.specs.Stores.{codes_at, ending_at, puts};

@@ -1,5 +1,6 @@
 // The line's literals against the clause's, through marks in a lent array, which are taken back.
 #![tactic(auto)]
+
 ghost use Rattle.std.specs.Prelude.{◌≡◌, set};
 ghost use Rattle.lines.specs.Lists.{all};
 ghost use Rattle.copies.specs.Marks.{Unmarked};

@@ -1,5 +1,6 @@
 // Rule 7: which copies are mapped.
 #![tactic(auto)]
+
 pub mod numbers;
 
 ghost use Rattle.std.specs.Prelude.{◌≡◌, ◌/◌};

@@ -1,5 +1,6 @@
 // Mapping lines, `x P1..Pk 0 E1..Ek 0 L1..Lm 0`: storing, and the whole line.
 #![tactic(auto)]
+
 mod stores;
 
 ghost use Rattle.std.specs.Prelude.{◌≡◌};

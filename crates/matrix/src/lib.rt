@@ -1,5 +1,6 @@
 // Where the clauses of the matrix start, so that each is reached without a walk.
 #![tactic(auto)]
+
 ghost use Rattle.std.specs.Prelude.{◌≡◌, ◌-◌};
 ghost use Rattle.matrix.specs.Index.{place_at, noted, index_of};
 

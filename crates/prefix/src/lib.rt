@@ -1,5 +1,6 @@
 // What the prefix table says of a variable: its quantifier, and which universals an existential depends on.
 #![tactic(auto)]
+
 ghost use Rattle.std.specs.Prelude.{◌≡◌, replicate};
 ghost use Rattle.lines.specs.Lists.{all};
 ghost use Rattle.cells.specs.Cells.{list_at};

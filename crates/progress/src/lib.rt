@@ -1,5 +1,6 @@
 // What is carried from line to line of a certificate: the order of its lines, its hints and limits, and its end.
 #![tactic(auto)]
+
 mod ending;
 mod order;
 

@@ -108,7 +108,7 @@ pub record Held (S : List (List ℕ)) (f t : List ℕ) (n : ℕ) : Type 0 where
   pub ready : Ready f t n
   pub based : (Q : ℕ → Bool) → Good S Q → Holds Q t n
 
--- AS THE REFERENCES OF A CALL SHOW THEM, the values and the trail
+-- AS CONTRACTS NAME THEM, the values and the trail
 abbrev pub HeldIn : List (List ℕ) → List ℕ → List ℕ → ℕ → Type 0
 HeldIn S f t n = Held S f t n
 

@@ -1,5 +1,6 @@
 // Unit propagation over the standing clauses, in any order of units, and what follows from them alone.
 #![tactic(auto)]
+
 ghost use Rattle.std.specs.Prelude.{◌<◌};
 ghost use Rattle.clauses.specs.Standing.{standing_in};
 ghost use Rattle.trail.specs.Trail.{ReadyIn};

@@ -1,5 +1,6 @@
 // How the reading of a certificate ends, whatever its kind, and the report of it.
 #![tactic(auto)]
+
 ghost use Rattle.std.specs.Prelude.{◌≡◌};
 ghost use Rattle.reading.specs.Ends.{ended_by, report_of, refused_early};
 

@@ -65,7 +65,7 @@ unfoldable pub Decided : List (List ℕ) → List ℕ → List ℕ → List ℕ 
 Decided S c f t (Accepted u) = Held S f t u.n × (accepts S c ≡ true)
 Decided S c f t Refused = accepts S c ≡ false
 
--- AS THE REFERENCES OF A CALL SHOW THEM: clause d less a literal, clause c joined with it, and what becomes of the values and the trail
+-- AS CONTRACTS NAME THEM: clause d less a literal, clause c joined with it, and what becomes of the values and the trail
 abbrev pub less_in : List ℤ → Cursor → ℕ → List ℕ
 less_in t d x = less_code x (literals_from t d)
 

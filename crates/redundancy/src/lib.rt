@@ -1,5 +1,6 @@
 // Additions: RUP, and RAT on the first written literal.
 #![tactic(auto)]
+
 ghost use Rattle.std.specs.Prelude.{◌≡◌};
 ghost use Rattle.clauses.specs.Standing.{standing_in, literals_in, literal_at};
 ghost use Rattle.trail.specs.Trail.{ReadyIn};

@@ -1,5 +1,6 @@
 // A report as seven numbers, and as the bytes of its seven fields.
 #![tactic(auto)]
+
 ghost use Rattle.std.specs.Prelude.{◌≡◌, [], ◌∷◌, ◌+◌, ◌*◌, ◌<◌, ◌≤◌, length};
 ghost use Rattle.rules.specs.Render.{word_of};
 ghost use Rattle.report.specs.Fields.{seven_of, Rendered};

@@ -1,5 +1,6 @@
 // The judging of what is stored already, from one progress to the next. Nothing here knows of text.
 #![tactic(auto)]
+
 mod additions;
 mod deletions;
 mod expansions;

@@ -38,7 +38,7 @@ pub record Undone (f t : List ℕ) (base : ℕ) (f' : List ℕ) : Type 0 where
   pub trailed : Trailed f' t base
   pub fewer : (l : ℕ) → off f' l ≡ true → off f l ≡ true
 
--- AS THE REFERENCES OF A CALL SHOW THEM
+-- AS CONTRACTS NAME THEM
 abbrev pub ShapeIn : List ℕ → ℕ → Type 0
 ShapeIn f n = Shape f n
 

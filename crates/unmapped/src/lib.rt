@@ -1,5 +1,6 @@
 // Rule 9: whether the copies of a clause are mapped.
 #![tactic(auto)]
+
 ghost use Rattle.std.specs.Prelude.{◌≡◌};
 ghost use Rattle.clauses.specs.Standing.{literals_in};
 ghost use Rattle.unmapped.specs.Copies.{all_mapped};

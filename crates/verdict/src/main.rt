@@ -1,5 +1,6 @@
 // The program: loads the two files of the working folder, checks them and writes the verdict's line.
 #![tactic(auto)]
+
 ghost use Rattle.std.specs.Prelude.{◌≡◌, ◌≤◌, length, take};
 ghost use Rattle.tables.specs.Tables.{six};
 ghost use Rattle.verdict.specs.Program.{ReportedIn, Printed};

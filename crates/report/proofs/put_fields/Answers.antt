@@ -17,10 +17,10 @@ put_field-k-requires c = omega (arith, c.loop-i.invariant.2.same)
 
 pub loop-i-preserved : goal.loop-i-preserved
 loop-i-preserved c = (
-      omega arith,
-      omega (arith, c.put_field-k.ensures.1),
-      written_as (after_next _ c.loop-i.i c.loop-i-test.true) (written_then c.loop-i.invariant.2 c.put_field-k.ensures.0),
-    )
+  omega arith,
+  omega (arith, c.put_field-k.ensures.1),
+  written_as (after_next _ c.loop-i.i c.loop-i-test.true) (written_then c.loop-i.invariant.2 c.put_field-k.ensures.0),
+)
 
 pub returns : goal.returns
 returns c = (written_as (ap after_commas (take_all _ _ c.loop-i-test.false)) c.loop-i.invariant.2, omega arith)

@@ -22,7 +22,7 @@ loop-a-smaller c = let h = inside _ _ c.code-y.ensures.0 c.if-y-eq0.false in ome
 
 pub loop-a-preserved : goal.loop-a-preserved
 loop-a-preserved c = let l = c.loop-a in (
-      ap (marks (list_at c.args.t.now (l.i + 1))) c.mark_one.ensures
-          ∙ sym (marks_next _ _ _ c.code-y.ensures.0 c.if-y-eq0.false) ∙ l.invariant.0,
-      omega arith,
-    )
+  ap (marks (list_at c.args.t.now (l.i + 1))) c.mark_one.ensures
+      ∙ sym (marks_next _ _ _ c.code-y.ensures.0 c.if-y-eq0.false) ∙ l.invariant.0,
+  omega arith,
+)

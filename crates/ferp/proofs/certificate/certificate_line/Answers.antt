@@ -11,7 +11,7 @@ pub returns-in-Skip : goal.returns-in-Skip
 returns-in-Skip c = line_skipped ferp_rules ferp_code (λ f s. means _ (six c.args.prefix.now c.args.matrix.now c.args.map.now c.args.proof.now c.args.marks.now c.args.values.now) f s c.kind_of.ensures c.in-Skip.is)
 
 pub returns-in-Mapping : goal.returns-in-Mapping
-returns-in-Mapping c = line_judged ferp_rules ferp_code (judged same_form _ _ _) (λ f s. means _ _ f s c.kind_of.ensures c.in-Mapping.is) (c.mapping_line.ensures 
+returns-in-Mapping c = line_judged ferp_rules ferp_code (judged same_form _ _ _) (λ f s. means _ _ f s c.kind_of.ensures c.in-Mapping.is) (c.mapping_line.ensures
     (six c.args.prefix.now c.args.matrix.now c.args.map.now c.args.proof.now c.args.marks.now c.args.values.now)
     (four c.args.starts.now c.args.noted.now c.args.indexes.now c.args.seen.now)).steps
 

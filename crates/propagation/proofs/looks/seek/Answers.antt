@@ -21,10 +21,10 @@ loop-i-smaller-then-not-is_off c = read_less _ _ _ c.literal-l.ensures.0 c.if-l-
 
 pub loop-i-preserved-then-not-is_off : goal.loop-i-preserved-then-not-is_off
 loop-i-preserved-then-not-is_off c = (
-      seeking_one _ _ _ _ c.loop-i.invariant.0 _ _ (read_more _ _ _ c.literal-l.ensures.0 c.if-l-eq0.false c.after-i.ensures) (sym (c.is_off.ensures c.literal-l.ensures.1) ∙ not_t _ c.if-not-is_off.true-raw) c.if-l-eq0.false
-          (either inl (λ e. inr (e ∙ sym c.if-l-o.false)) c.loop-i.invariant.1),
-      inr c.if-l-o.false,
-    )
+  seeking_one _ _ _ _ c.loop-i.invariant.0 _ _ (read_more _ _ _ c.literal-l.ensures.0 c.if-l-eq0.false c.after-i.ensures) (sym (c.is_off.ensures c.literal-l.ensures.1) ∙ not_t _ c.if-not-is_off.true-raw) c.if-l-eq0.false
+      (either inl (λ e. inr (e ∙ sym c.if-l-o.false)) c.loop-i.invariant.1),
+  inr c.if-l-o.false,
+)
 
 pub loop-i-smaller : goal.loop-i-smaller
 loop-i-smaller c = read_less _ _ _ c.literal-l.ensures.0 c.if-l-eq0.false c.after-i.ensures
