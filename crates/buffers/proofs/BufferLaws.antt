@@ -2,7 +2,7 @@
 use mathlib.Core.Path.{◌≡◌, refl, ap, ap₂, sym, ◌∙◌}
 use mathlib.Core.Bool.{Bool, true, false, cond}
 use mathlib.Core.List.{List, [], ◌∷◌, map}
-use Prim.Native.Nat.{ℕ, zero, suc, ◌+◌, ◌*◌, ◌%◌, ◌<◌, ◌≤◌, min}
+use Prim.Native.Nat.{ℕ, zero, suc, ◌+◌, ◌%◌, ◌<◌, ◌≤◌}
 use native.Mathlib.Omega.{arith}
 use native.Mathlib.Numerals.{add-one}
 use lib.Dec.{eqb}
@@ -12,10 +12,10 @@ use lib.ListN.{length, take, drop, get_or, set, length-set, length-map, drop_of_
 use lib.Seq.{sets, sets-eq, set_out, take_at, drop-cons, get_or-take, length-take-le}
 use Rattle.lines.specs.Lines.{Token, number, minus, word}
 use Rattle.lines.specs.declared.Literal.{Literal}
-use Rattle.lines.specs.Scan.{cap, tokens_from, literal_at}
+use Rattle.lines.specs.Scan.{tokens_from, literal_at}
 use Rattle.cells.proofs.Laws.{stored as stored-small}
 use Rattle.lists.specs.declared.Ending.{Ending}
-use Rattle.lists.specs.Lists.{lits_at, is_list}
+use Rattle.lists.specs.Lists.{lits_at}
 use Rattle.lists.specs.Stores.{codes_in, codes_at, ending_at, puts}
 use Rattle.lists.proofs.ListLaws.{Listing, listing_list}
 use Rattle.lists.proofs.StoreLaws.{puts_more, codes_lost, codes_end, codes_more, codes_listed, length_written}

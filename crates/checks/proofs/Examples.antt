@@ -1,10 +1,9 @@
 -- Ends, kinds and results that do not fit, by hand. Assumes nothing.
 use mathlib.Core.Path.{◌≡◌, refl}
-use mathlib.Core.List.{List, [], ◌∷◌}
-use mathlib.Core.Option.{Option, none, some}
-use Prim.Native.Nat.{ℕ}
-use Rattle.checks.specs.Runs.{Job, ferat, ferp}
-use Rattle.checks.specs.All.{part, job_of, asked_from, asked, Entry, passed, numbers_in, over}
+use mathlib.Core.List.{[], ◌∷◌}
+use mathlib.Core.Option.{none, some}
+use Rattle.checks.specs.Runs.{ferat, ferp}
+use Rattle.checks.specs.All.{part, job_of, asked_from, asked, passed, numbers_in, over}
 
 -- two checks: a certificate whose end lies below its formula's, and one whose end lies beyond the bytes; the fifth end is left alone
 clamped_ends : asked (5 ∷ 6 ∷ 7 ∷ []) (2 ∷ 1 ∷ 2 ∷ 9 ∷ 9 ∷ []) (1 ∷ 2 ∷ []) ≡ some (ferat (5 ∷ 6 ∷ []) []) ∷ some (ferp [] (7 ∷ [])) ∷ []

@@ -1,7 +1,6 @@
 -- DEMAND 3: of every list of checks run in the same six tables, whatever these held before. Assumes nothing.
 use mathlib.Core.Path.{◌≡◌, refl, ap, sym, ◌∙◌}
 use mathlib.Core.List.{List, [], ◌∷◌, map}
-use Prim.Native.Nat.{ℕ}
 use Rattle.rules.specs.Needs.{Places}
 use Rattle.rules.specs.Limits.{Limits, limits}
 use Rattle.rules.specs.Verdict.{verdict}

@@ -2,14 +2,13 @@
 use Rattle.std.specs.Prelude.{◌≡◌, List, ℕ, replicate}
 use Rattle.std.proofs.Math.Option.{none, some}
 use Rattle.std.proofs.lemmas.List.Edits.{sets}
-use Rattle.rules.specs.declared.Report.{Report}
 use Rattle.report.specs.Fields.{seven_of}
 use Rattle.tables.specs.Tables.{Tables}
 use Rattle.tables.specs.Checked.{CheckedBy}
 use Rattle.checks.specs.declared.Ran.{Ran}
 use Rattle.checks.specs.declared.Ran.TheVariants.{With, Not}
 use Rattle.checks.specs.Runs.{Job, rules_of, range_of}
-use Rattle.checks.specs.All.{part, job_of, job_in, Entry, ran, passed, asked_by, seven_in}
+use Rattle.checks.specs.All.{job_of, job_in, Entry, ran, passed, asked_by, seven_in}
 
 -- by the number of its kind
 abbrev pub RanAs : ℕ → List ℕ → List ℕ → Tables → Ran → Tables → Type 0

@@ -1,5 +1,5 @@
 -- What the code tests of a clause line that is stored, one law for each answer. Assumes nothing.
-use mathlib.Core.Path.{◌≡◌, refl, ap, ap₂, sym, ◌∙◌, subst}
+use mathlib.Core.Path.{◌≡◌, refl, ap, ap₂, sym, ◌∙◌}
 use mathlib.Core.Bool.{Bool, true, false, cond}
 use mathlib.Core.List.{List}
 use Prim.Native.Nat.{ℕ, ◌+◌, ◌-◌, ◌%◌, max}
@@ -25,7 +25,7 @@ use Rattle.derivations.specs.declared.Reason.{Reason}
 use Rattle.derivations.specs.declared.Reason.TheVariants.{Clause, Parents}
 use Rattle.derivations.specs.Shown.{Work}
 use Rattle.derivations.specs.Rules.{expansion_broken, by_places, parents_broken, ExpansionJudged, ParentsJudged, rule_broken, RuleJudged}
-use Rattle.derivations.specs.Judges.{counted_by, stood_in, StandsAs}
+use Rattle.derivations.specs.Judges.{counted_by, StandsAs}
 
 -- MARKS that are clear
 pub clear_unmarked : {s : List ℕ} → Clear s → Unmarked s

@@ -1,25 +1,23 @@
 -- Laws of the judge of a clause line that is stored. Assumes nothing.
 use mathlib.Core.Path.{◌≡◌, refl, ap, sym, ◌∙◌, subst}
-use mathlib.Core.Bool.{Bool, true, false, not, cond}
+use mathlib.Core.Bool.{cond}
 use mathlib.Core.List.{List}
 use mathlib.Core.Option.{Option, none, some}
-use Prim.Native.Nat.{ℕ, ◌<◌, ◌≤◌}
+use Prim.Native.Nat.{ℕ, ◌≤◌}
 use native.Mathlib.Omega.{arith}
-use lib.Dec.{eqb}
 use lib.IntN.{ℤ}
 use borrow.Author.Tests.{eq-eqb, ne_eqb}
-use Rattle.rules.specs.Basics.{is_in}
 use Rattle.rules.specs.Literals.{Lits}
 use Rattle.rules.specs.Formula.{Formula}
 use Rattle.rules.specs.Step as rules
 use Rattle.rules.specs.Step.{refuse_in}
 use Rattle.ferp_rules.specs.Lines.{Derived, needing, kind_rules, accept}
-use Rattle.tables.specs.Tables.{Tables, tables, KeptAll}
+use Rattle.tables.specs.Tables.{Tables, tables}
 use Rattle.tables.proofs.Frames.{all_self}
 use Rattle.indexes.specs.Shown.{place_at}
 use Rattle.indexes.proofs.IndexLaws.{not_used}
 use Rattle.resolvents.specs.Marks.{Clear}
-use Rattle.reading.specs.Lines.{Light, Leads}
+use Rattle.reading.specs.Lines.{Leads}
 use Rattle.reading.proofs.GoingLaws.{numbered}
 use Rattle.derivations.specs.declared.Progress.{Progress}
 use Rattle.derivations.specs.declared.Step.TheVariants.{Next, Refuse}
@@ -27,9 +25,9 @@ use Rattle.derivations.specs.declared.Reason.{Reason}
 use Rattle.derivations.specs.declared.Reason.TheVariants.{Clause, Parents}
 use Rattle.derivations.specs.Shown.{Work, work, Shown, ferp_rules, ferp_code, answer_of}
 use Rattle.derivations.specs.Rules.{rule_broken, RuleJudged, line_broken}
-use Rattle.derivations.specs.Judges.{line_of, kind_judge, Named, Pending, StandsAs, Judges}
+use Rattle.derivations.specs.Judges.{line_of, kind_judge, Named, StandsAs, Judges}
 use Rattle.derivations.proofs.RuleLaws.{kinds}
-use Rattle.derivations.proofs.StandLaws.{after, needs_with, clause_needs_lem, accepted_as, stood_kept, stood_shown, stood_weight}
+use Rattle.derivations.proofs.StandLaws.{accepted_as, stood_kept, stood_shown, stood_weight}
 
 -- the index of a line that passed 3
 low_index : (f : Formula) (i : ℕ) (reason : Reason) → Named f i reason → i ≤ 65536

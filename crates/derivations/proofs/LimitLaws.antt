@@ -1,6 +1,6 @@
 -- Laws of the limits of a clause line. Assumes nothing.
 use mathlib.Core.Path.{◌≡◌, refl, ap, ap₂, sym, ◌∙◌}
-use mathlib.Core.Bool.{Bool, true, false, cond, ◌&&◌}
+use mathlib.Core.Bool.{Bool, true, false, ◌&&◌}
 use Prim.Native.Nat.{ℕ, ◌+◌, ◌-◌, ◌<◌, ◌≤◌, max}
 use native.Mathlib.Omega.{arith}
 use lib.Dec.{leb}
@@ -9,7 +9,7 @@ use Rattle.clauses.specs.Standing.{proof_need, marks_need, places_of, grown, roo
 use Rattle.clauses.proofs.StoreLaws.{proof_grown, marks_grown}
 use Rattle.derivations.specs.declared.Progress.{Progress}
 use Rattle.derivations.specs.declared.Reason.{Reason}
-use Rattle.derivations.specs.declared.Reason.TheVariants.{Clause, Parents}
+use Rattle.derivations.specs.declared.Reason.TheVariants.{Parents}
 use Rattle.derivations.specs.Limits.{reason_in_range, line_in_range, has_places}
 
 -- of two tests the first decides

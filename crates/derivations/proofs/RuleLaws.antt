@@ -7,8 +7,7 @@ use Prim.Native.Nat.{ℕ, zero, suc, ◌-◌, ◌≤◌, ◌<◌}
 use native.Mathlib.Omega.{arith}
 use lib.Dec.{eqb}
 use lib.ListN.{length, get_or, length-map}
-use lib.IntN.{ℤ}
-use borrow.Author.Tests.{eq-eqb, ne_eqb}
+use borrow.Author.Tests.{ne_eqb}
 use Rattle.lines.specs.Lists.{all}
 use Rattle.cells.specs.Cells.{list_at}
 use Rattle.rules.specs.Basics.{is_in}
@@ -20,9 +19,8 @@ use Rattle.rules.specs.Step.{◌unless◌, ◌then◌}
 use Rattle.rules.specs.CertificateLines.{clause_number}
 use Rattle.rules.proofs.CodesLaw.{lits_codes}
 use Rattle.ferp_rules.specs.Resolvent.{resolvent, derives}
-use Rattle.ferp_rules.specs.Lines.{Derived, clause_of, parent, needing, kind_rules}
+use Rattle.ferp_rules.specs.Lines.{Derived, parent, needing, kind_rules}
 use Rattle.tables.specs.Tables.{Tables}
-use Rattle.unmapped.specs.Copies.{all_mapped}
 use Rattle.unmapped.proofs.CopyLaws.{mapped_all}
 use Rattle.mapping.proofs.LineLaws.{shown_copy}
 use Rattle.copies.specs.Copies.{stands_of, annotation_at, annotation_of}

@@ -2,29 +2,28 @@
 use mathlib.Core.Path.{◌≡◌, refl, ap, ap₂, sym, ◌∙◌, subst}
 use mathlib.Core.Bool.{true, false}
 use mathlib.Core.List.{List, [], ◌∷◌, ◌++◌, map}
-use Prim.Native.Nat.{ℕ, ◌+◌, ◌*◌, ◌%◌, ◌<◌, ◌≤◌, max}
+use Prim.Native.Nat.{ℕ, ◌+◌, ◌*◌, ◌<◌, ◌≤◌, max}
 use native.Mathlib.Omega.{arith}
 use lib.ListN.{length, length-append, length-map}
 use lib.IntN.{ℤ}
 use Rattle.rules.specs.Basics.{is_in, greatest}
 use Rattle.rules.specs.Literals.{Lits, vars}
-use Rattle.rules.specs.Codes.{code_of, lit_of}
+use Rattle.rules.specs.Codes.{code_of}
 use Rattle.rules.specs.Formula.{Formula}
 use Rattle.rules.specs.Needs.{Places, places, fits, together}
 use Rattle.rules.specs.CertificateLines as ferat-lines
-use Rattle.rules.specs.CertificateLines.{State, state}
+use Rattle.rules.specs.CertificateLines.{state}
 use Rattle.ferp_rules.specs.Lines.{Derived, derived, ferp_needs, needing, accept}
 use Rattle.tables.specs.Tables.{Tables, tables, lengths_of, KeptAll}
 use Rattle.cells.specs.Cells.{Kept}
 use Rattle.tables.proofs.Frames.{all_self}
 use Rattle.tables.proofs.Rooms.{fits_room, room_fits, places_same}
-use Rattle.clauses.specs.Standing.{standing, places_of, literals, proof_need, marks_need, grown, pending, Stood}
+use Rattle.clauses.specs.Standing.{standing, places_of, literals, proof_need, marks_need, grown, Stood}
 use Rattle.clauses.proofs.StandingLaws.{literals_more}
 use Rattle.clauses.proofs.StoreLaws.{proof_grown, marks_grown, places_grown, places_marks}
 use Rattle.indexes.specs.Shown.{IndexesShown}
 use Rattle.indexes.proofs.IndexLaws.{shown_more}
 use Rattle.resolvents.specs.Marks.{Clear}
-use Rattle.reading.specs.declared.Counts.{Counts}
 use Rattle.reading.specs.Lines.{Light}
 use Rattle.derivations.specs.declared.Progress.{Progress}
 use Rattle.derivations.specs.declared.Reason.{Reason}

@@ -10,7 +10,7 @@ use Rattle.ferp_rules.specs.Forms.{FerpLine, expansion, resolution}
 use Rattle.ferp_rules.specs.Lines.{Derived, needing, kind_rules, accept}
 use Rattle.tables.specs.Tables.{Tables}
 use Rattle.clauses.specs.declared.Store.{Store}
-use Rattle.clauses.specs.Standing.{pending, grown, proof_need, marks_need, places_of, StandsNow}
+use Rattle.clauses.specs.Standing.{pending, proof_need, marks_need, places_of, StandsNow}
 use Rattle.indexes.specs.Shown.{noted}
 use Rattle.reading.specs.declared.Counts.{Counts}
 use Rattle.reading.specs.Lines.{Light, Leads}

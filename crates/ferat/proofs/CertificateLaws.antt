@@ -1,6 +1,5 @@
 -- FERAT's rules and code are apt for the reading of a certificate. Assumes nothing.
 use mathlib.Core.Path.{◌≡◌, refl, ap, sym, ◌∙◌}
-use mathlib.Core.List.{List}
 use Prim.Native.Nat.{ℕ}
 use Rattle.rules.specs.Formula.{Formula}
 use Rattle.rules.specs.Forms.{CertificateLine, mapping, hints, expansion, addition, deletion, certificate_line}

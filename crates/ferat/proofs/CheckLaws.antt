@@ -4,7 +4,6 @@ use mathlib.Core.List.{List}
 use Prim.Native.Nat.{ℕ, ◌≤◌, ◌<◌}
 use lib.IntN.{ℤ}
 use lib.ListN.{length, replicate}
-use Rattle.rules.specs.Limits.{Limits}
 use Rattle.rules.specs.CertificateLines.{read_certificate}
 use Rattle.rules.specs.Verdict.{check, FeratNumber, Ranged}
 use Rattle.rules.specs.declared.Report.{Report}

@@ -6,7 +6,7 @@ use mathlib.Core.Logic.{inr}
 use mathlib.Core.Option.{Option, none, some}
 use Prim.Native.Nat.{ℕ, ◌+◌, ◌<◌, ◌≤◌, min, max}
 use native.Mathlib.Omega.{arith}
-use lib.Dec.{eqb, leb}
+use lib.Dec.{leb}
 use lib.ListN.{length}
 use lib.IntN.{ℤ}
 use borrow.Author.Tests.{leb-true, leb-false, le-leb, lt-leb, eqb-false}
@@ -15,41 +15,40 @@ use Rattle.lines.specs.Scan.{cap, tokens_from}
 use Rattle.lists.specs.declared.Ending.{Ending}
 use Rattle.lists.specs.Stores.{ending_at}
 use Rattle.lists.specs.Lists.{lits_at}
-use Rattle.lists.proofs.ListLaws.{Listing, listing_list, all_low, listed_low, listed_high}
+use Rattle.lists.proofs.ListLaws.{listing_list, all_low, listed_low, listed_high}
 use Rattle.lists.proofs.StoreLaws.{ending_good}
 use Rattle.rules.specs.Basics.{greatest, maybe}
 use Rattle.rules.specs.Literals.{Lits, vars}
 use Rattle.rules.specs.Formula.{Formula}
-use Rattle.rules.specs.Needs.{Places, places, fits}
+use Rattle.rules.specs.Needs.{places, fits}
 use Rattle.rules.specs.Limits.{limits, allows}
 use Rattle.rules.specs.Step as rules
 use Rattle.rules.specs.Step.{◌unless◌, ◌then◌, refuse_in}
 use Rattle.rules.specs.CertificateLines as ferat-lines
 use Rattle.rules.proofs.Kit.{and_l, and_r}
-use Rattle.ferp_rules.specs.Forms.{FerpLine, expansion, resolution, derivation_form}
+use Rattle.ferp_rules.specs.Forms.{FerpLine, derivation_form}
 use Rattle.ferp_rules.specs.Lines.{Derived, needing, in_sequence, in_range, kind_rules, accept, judge}
 use Rattle.ferp_rules.proofs.FormLaws.{LineRead, derivation_read}
 use Rattle.tables.specs.Tables.{Tables, tables, lengths_of, KeptAll}
 use Rattle.tables.proofs.Frames.{all_self}
 use Rattle.tables.proofs.Rooms.{Room, fits_room, room_fits, no_room}
-use Rattle.clauses.specs.Standing.{literals, places_of, proof_need, marks_need, grown, stored, Pended}
+use Rattle.clauses.specs.Standing.{literals, places_of, proof_need, marks_need, stored, Pended}
 use Rattle.clauses.proofs.StoreLaws.{pended, proof_grown}
-use Rattle.cells.specs.Cells.{Kept}
 use Rattle.cells.proofs.Laws.{kept_later}
 use Rattle.buffers.specs.Buffers.{Buffered}
 use Rattle.buffers.proofs.BufferLaws.{buffered}
-use Rattle.reading.specs.Lines.{Light, Leads}
+use Rattle.reading.specs.Lines.{Leads}
 use Rattle.reading.proofs.LineLaws.{state_of, leads_later, refused_now}
 use Rattle.derivations.specs.declared.Progress.{Progress}
 use Rattle.derivations.specs.declared.Step.{Step}
-use Rattle.derivations.specs.declared.Step.TheVariants.{Next, Refuse}
+use Rattle.derivations.specs.declared.Step.TheVariants.{Refuse}
 use Rattle.derivations.specs.declared.Reason.{Reason}
 use Rattle.derivations.specs.declared.Reason.TheVariants.{Clause, Parents}
 use Rattle.derivations.specs.Shown.{Work, needs_of, Shown, ferp_rules, ferp_code, answer_of}
 use Rattle.derivations.specs.Limits.{reason_in_range, line_in_range, has_places, limit_broken}
 use Rattle.derivations.specs.Judges.{line_of, kind_judge, Named, Pending, Judges}
 use Rattle.derivations.proofs.LimitLaws.{same_test}
-use Rattle.derivations.proofs.StandLaws.{needs_with, clause_needs_lem, accepted_as, after}
+use Rattle.derivations.proofs.StandLaws.{needs_with, clause_needs_lem, accepted_as}
 use Rattle.ferp_forms.specs.declared.Derivation.{Derivation}
 use Rattle.ferp_forms.specs.Forms.{capped_reason, derivation_at, KeptIn, Derives}
 use Rattle.ferp_forms.proofs.DerivationLaws.{Measured, MeasuredAs, measures}

@@ -1,5 +1,5 @@
 -- Before the first line of the certificate. Assumes nothing.
-use mathlib.Core.Path.{◌≡◌, refl, ap, sym, ◌∙◌, subst}
+use mathlib.Core.Path.{◌≡◌, refl, ap, sym, subst}
 use mathlib.Core.List.{List}
 use Prim.Native.Nat.{ℕ}
 use native.Mathlib.Omega.{arith}
@@ -17,7 +17,7 @@ use Rattle.formula.proofs.ShownLaws.{formula_shown}
 use Rattle.mapping.proofs.LineLaws.{shown_start as none-mapped}
 use Rattle.matrix.specs.Index.{Indexed, index_of}
 use Rattle.matrix.proofs.IndexLaws.{clauses_indexed}
-use Rattle.clauses.specs.Standing.{literals, empty_above}
+use Rattle.clauses.specs.Standing.{literals}
 use Rattle.clauses.proofs.StoreLaws.{filled_above, need_above, standing_above, places_above}
 use Rattle.indexes.proofs.IndexLaws.{shown_start as none-used}
 use Rattle.resolvents.proofs.MarkLaws.{clear_start}

@@ -1,24 +1,23 @@
 -- Laws of a clause line's text: its form is the rules'. Assumes nothing.
-use mathlib.Core.Path.{◌≡◌, refl, ap, ap₂, sym, ◌∙◌, subst}
+use mathlib.Core.Path.{◌≡◌, refl, ap, sym, ◌∙◌, subst}
 use mathlib.Core.Bool.{Bool, true, false, not}
 use mathlib.Core.List.{List, [], ◌∷◌}
 use mathlib.Core.Option.{Option, none, some}
 use Prim.Native.Nat.{ℕ, min}
 use native.Mathlib.Omega.{arith}
 use lib.Dec.{eqb}
-use lib.ListN.{length}
 use borrow.Author.Tests.{ne_eqb, eqb-true, eqb-false}
 use Rattle.lines.specs.Lines.{Token, nothing_more}
 use Rattle.lines.specs.Scan.{cap, tokens_from, end_at}
 use Rattle.rules.specs.Basics.{maybe}
-use Rattle.rules.specs.Literals.{Lits, vars}
+use Rattle.rules.specs.Literals.{Lits}
 use Rattle.rules.specs.Forms.{numeral, literal, one, up_to_zero, whole, provided, ◌>>=◌}
 use Rattle.lists.specs.declared.Natural.{Natural}
 use Rattle.lists.specs.declared.Listed.{Listed}
 use Rattle.lists.specs.Lists.{natural_at, listed_at, lits_at, exactly}
 use Rattle.lists.proofs.NaturalLaws.{Numeral, natural_told, one_number, zero_number, more_numbers}
 use Rattle.lists.proofs.ListLaws.{Listing, listed_lost, listed_told}
-use Rattle.ferp_rules.specs.Forms.{FerpLine, mapping, expansion, resolution, derivation, derivation_form}
+use Rattle.ferp_rules.specs.Forms.{FerpLine, derivation, derivation_form}
 use Rattle.derivations.specs.declared.Reason.{Reason}
 use Rattle.derivations.specs.declared.Reason.TheVariants.{Clause, Parents}
 use Rattle.derivations.specs.Judges.{line_of}

@@ -5,7 +5,7 @@ use Rattle.std.proofs.lemmas.List.Edits.{sets}
 use Rattle.lines.specs.Lines.{Token}
 use Rattle.lines.specs.Scan.{cap, tokens_from, end_at, ended_at}
 use Rattle.rules.specs.Basics.{maybe}
-use Rattle.rules.specs.Literals.{Lits, vars}
+use Rattle.rules.specs.Literals.{vars}
 use Rattle.rules.specs.Forms.{numeral, ◌>>=◌}
 use Rattle.lists.specs.Lists.{capped, exactly}
 use Rattle.lists.specs.Stores.{codes_at}

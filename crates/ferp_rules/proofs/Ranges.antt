@@ -1,6 +1,6 @@
 -- The numbers, files and lines of the verdicts on FERP certificates.
-use mathlib.Core.Path.{◌≡◌, refl}
-use mathlib.Core.Logic.{◌⊎◌, inl, inr}
+use mathlib.Core.Path.{refl}
+use mathlib.Core.Logic.{inl, inr}
 use mathlib.Core.Bool.{Bool, not, ◌&&◌}
 use mathlib.Core.List.{List, ◌++◌}
 use mathlib.Core.Option.{Option}
@@ -16,13 +16,13 @@ use Rattle.rules.specs.Limits.{Limits, has_room}
 use Rattle.rules.specs.Step.{next, Read, ended, refused_at, ◌unless◌, ◌then◌, refuse_in, judge_bytes}
 use Rattle.rules.specs.Expansion.{copy_vars, is_mapped, good_annotation, mapping_rules, expands}
 use Rattle.rules.specs.CertificateLines.{clause_number}
-use Rattle.rules.specs.Verdict.{IsNumber, Ranged, Checked}
+use Rattle.rules.specs.Verdict.{IsNumber, Ranged}
 use Rattle.rules.proofs.Judged.{OfRead, of_then, file_keeps, bytes_keep}
 use Rattle.rules.proofs.Ranges.{Any, Numbered, Rules, Steps, one, two, three, guarded, FormulaNumber, both_ranged}
 use Rattle.ferp_rules.specs.Forms.{FerpLine, mapping, expansion, resolution, ferp_line}
 use Rattle.ferp_rules.specs.Resolvent.{derives}
 use Rattle.ferp_rules.specs.Lines.{Derived, start, parent, needing, in_sequence, in_range, kind_rules, accept, certificate_end, judge, read_ferp}
-use Rattle.ferp_rules.specs.Verdict.{FerpNumber, of_ferp, ferp_check, ferp_verdict}
+use Rattle.ferp_rules.specs.Verdict.{FerpNumber, of_ferp, ferp_check}
 
 abbrev Ferp : ℕ → Type 0
 Ferp n = IsNumber n × FerpNumber n

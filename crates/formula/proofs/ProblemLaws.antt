@@ -4,19 +4,18 @@ use mathlib.Core.Bool.{Bool, true, false, cond, ◌&&◌}
 use mathlib.Core.List.{List, [], ◌∷◌, ◌++◌}
 use mathlib.Core.Logic.{⊎_elim}
 use mathlib.Core.Option.{Option, none, some}
-use Prim.Native.Nat.{ℕ, ◌+◌, ◌/◌, ◌%◌, ◌<◌, ◌≤◌, min}
+use Prim.Native.Nat.{ℕ, ◌+◌, ◌<◌, ◌≤◌}
 use native.Mathlib.Omega.{arith}
 use lib.ListN.{length, get_or, drop, replicate, length-replicate, get_or-replicate, get_or-append}
 use lib.Seq.{sets-eq}
 use lib.IntN.{ℤ}
-use lib.Dec.{eqb, leb}
-use borrow.Author.Tests.{eqb-true, eqb-false, le-leb, lt-leb}
+use lib.Dec.{leb}
+use borrow.Author.Tests.{le-leb, lt-leb}
 use Rattle.lines.specs.Bytes.{class_of, same_bytes}
 use Rattle.lines.specs.Lines.{Token, number, minus, word, token_of}
 use Rattle.lines.specs.declared.Found.{Found}
-use Rattle.lines.specs.declared.Literal.{Literal}
-use Rattle.lines.specs.Scan.{cap, tokens_from, literal_at, ended_at, word_is}
-use Rattle.lines.proofs.Words.{Coded, literal_told, literal_lost, word_found, word_missed}
+use Rattle.lines.specs.Scan.{tokens_from, ended_at, word_is}
+use Rattle.lines.proofs.Words.{word_found, word_missed}
 use Rattle.cells.specs.Cells.{cells_of, Kept}
 use Rattle.cells.proofs.Laws.{cells_at, cells_length, kept_self}
 use Rattle.rules.specs.Formula.{Formula}

@@ -19,12 +19,12 @@ use Rattle.rules.specs.Step as rules
 use Rattle.rules.specs.Step.{refuse_in, go_on, judge_lines, judge_file}
 use Rattle.rules.specs.CertificateLines.{State}
 use Rattle.tables.specs.Tables.{Tables, lengths_of, KeptAll}
-use Rattle.tables.proofs.Frames.{same_lengths, all_self, Below, all_then}
+use Rattle.tables.proofs.Frames.{same_lengths, all_self, all_then}
 use Rattle.reading.specs.declared.Counts.{Counts}
 use Rattle.reading.specs.declared.Ended.TheVariants.{Closed, Refused}
 use Rattle.reading.specs.Ends.{Counted, EndedAs, ended_by}
 use Rattle.reading.specs.Lines.{Rules, read_by, Code, Leads, Going}
-use Rattle.reading.proofs.StageLaws.{SameCounts, same_counts, Keeps}
+use Rattle.reading.proofs.StageLaws.{SameCounts, Keeps}
 
 -- a number of a rule, 0 for none
 abbrev pub numbered : ℕ → Option ℕ

@@ -1,10 +1,7 @@
 use native.Mathlib.Omega.{arith}
-use mathlib.Core.Path.{◌≡◌, refl, sym, ◌∙◌}
+use mathlib.Core.Path.{refl, sym, ◌∙◌}
 use Prim.Native.Nat.{◌-◌}
-use lib.ListN.{length}
-use Rattle.lines.specs.Lists.{all}
 use Rattle.prefix.specs.Prefix.{entry}
-use Rattle.mapped.specs.Numbers.{numbers_at, end_of}
 use Rattle.annotation.specs.Annotation.{under_one}
 use Rattle.mapped.proofs.NumberLaws.{item_told, all_end, all_more, all_fails}
 use Rattle.annotation.proofs.all_under.Goals as goal

@@ -1,12 +1,10 @@
-use native.Mathlib.Omega.{arith}
-use mathlib.Core.Path.{◌≡◌, refl, sym, ◌∙◌}
+use mathlib.Core.Path.{◌≡◌}
 use Prim.Native.Nat.{◌-◌}
 use lib.ListN.{length}
 use Rattle.lines.specs.Lists.{all}
 use Rattle.prefix.specs.Prefix.{entry}
 use Rattle.mapped.specs.Numbers.{numbers_at, end_of}
 use Rattle.annotation.specs.Annotation.{under_one}
-use Rattle.mapped.proofs.NumberLaws.{item_told, all_end, all_more, all_fails}
 use Rattle.annotation.proofs.all_under.Given as goal
 
 abbrev pub invariant-loop-n : goal.invariant-loop-n

@@ -1,10 +1,8 @@
 use native.Mathlib.Omega.{arith}
 use mathlib.Core.Path.{sym, ◌∙◌}
 use Prim.Native.Nat.{◌-◌}
-use lib.ListN.{length}
-use Rattle.prefix.specs.Prefix.{entry}
 use Rattle.mapped.proofs.NumberLaws.{item_told}
-use Rattle.annotation.proofs.AnnotationLaws.{Walking, walk_start, walk_end, walk_lost, walk_more, walk_fails}
+use Rattle.annotation.proofs.AnnotationLaws.{walk_start, walk_end, walk_lost, walk_more, walk_fails}
 use Rattle.annotation.proofs.existentials.Goals as goal
 
 pub loop-n-init : goal.loop-n-init

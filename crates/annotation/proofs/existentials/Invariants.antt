@@ -1,10 +1,7 @@
-use native.Mathlib.Omega.{arith}
-use mathlib.Core.Path.{sym, ◌∙◌}
 use Prim.Native.Nat.{◌-◌}
 use lib.ListN.{length}
 use Rattle.prefix.specs.Prefix.{entry}
-use Rattle.mapped.proofs.NumberLaws.{item_told}
-use Rattle.annotation.proofs.AnnotationLaws.{Walking, walk_start, walk_end, walk_lost, walk_more, walk_fails}
+use Rattle.annotation.proofs.AnnotationLaws.{Walking}
 use Rattle.annotation.proofs.existentials.Given as goal
 
 abbrev pub invariant-loop-n : goal.invariant-loop-n

@@ -1,9 +1,8 @@
 use native.Mathlib.Omega.{arith}
 use mathlib.Core.Path.{◌≡◌, refl, sym, ◌∙◌}
 use Prim.Native.Nat.{ℕ, ◌-◌}
-use lib.ListN.{length}
 use Rattle.mapped.proofs.NumberLaws.{item_told}
-use Rattle.annotation.proofs.RisingLaws.{Rising, rising_end, rising_more}
+use Rattle.annotation.proofs.RisingLaws.{rising_end, rising_more}
 use Rattle.annotation.proofs.rises.Goals as goal
 
 pub loop-n-init : goal.loop-n-init

@@ -1,9 +1,6 @@
-use native.Mathlib.Omega.{arith}
-use mathlib.Core.Path.{◌≡◌, refl, sym, ◌∙◌}
-use Prim.Native.Nat.{ℕ, ◌-◌}
+use Prim.Native.Nat.{◌-◌}
 use lib.ListN.{length}
-use Rattle.mapped.proofs.NumberLaws.{item_told}
-use Rattle.annotation.proofs.RisingLaws.{Rising, rising_end, rising_more}
+use Rattle.annotation.proofs.RisingLaws.{Rising}
 use Rattle.annotation.proofs.rises.Given as goal
 
 abbrev pub invariant-loop-n : goal.invariant-loop-n

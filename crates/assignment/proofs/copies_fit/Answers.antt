@@ -1,13 +1,6 @@
-use mathlib.Core.Path.{◌≡◌, refl, sym, ◌∙◌}
+use mathlib.Core.Path.{refl, sym, ◌∙◌}
 use native.Mathlib.Omega.{arith}
 use Prim.Native.Nat.{◌-◌}
-use lib.ListN.{length}
-use Rattle.lines.specs.Lists.{all}
-use Rattle.cells.specs.Cells.{list_at}
-use Rattle.prefix.specs.Prefix.{entry}
-use Rattle.assignment.specs.Held.{listed, Noted}
-use Rattle.copies.specs.Copies.{stands_of, annotation_of}
-use Rattle.assignment.specs.Annotations.{part_size, copy_fits}
 use Rattle.copies.proofs.Walks.{inside, all_stop, all_next, all_fail}
 use Rattle.assignment.proofs.Arms.{long_past, copy_is}
 use Rattle.assignment.proofs.copies_fit.Goals as goal

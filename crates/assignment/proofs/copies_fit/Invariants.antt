@@ -1,5 +1,4 @@
-use mathlib.Core.Path.{◌≡◌, refl, sym, ◌∙◌}
-use native.Mathlib.Omega.{arith}
+use mathlib.Core.Path.{◌≡◌}
 use Prim.Native.Nat.{◌-◌}
 use lib.ListN.{length}
 use Rattle.lines.specs.Lists.{all}
@@ -8,8 +7,6 @@ use Rattle.prefix.specs.Prefix.{entry}
 use Rattle.assignment.specs.Held.{listed, Noted}
 use Rattle.copies.specs.Copies.{stands_of, annotation_of}
 use Rattle.assignment.specs.Annotations.{part_size, copy_fits}
-use Rattle.copies.proofs.Walks.{inside, all_stop, all_next, all_fail}
-use Rattle.assignment.proofs.Arms.{long_past, copy_is}
 use Rattle.assignment.proofs.copies_fit.Given as goal
 
 abbrev pub invariant-loop-l : goal.invariant-loop-l

@@ -1,8 +1,5 @@
-use mathlib.Core.Path.{◌≡◌}
 use native.Mathlib.Omega.{arith}
-use Prim.Native.Nat.{◌+◌, ◌-◌, ◌≤◌}
-use lib.ListN.{length}
-use Rattle.cells.specs.Cells.{list_at}
+use Prim.Native.Nat.{◌-◌}
 use Rattle.copies.proofs.Walks.{inside}
 use Rattle.assignment.proofs.Arms.{long_end, long_turn}
 use Rattle.assignment.proofs.length_at.Goals as goal

@@ -1,10 +1,7 @@
 use mathlib.Core.Path.{◌≡◌}
-use native.Mathlib.Omega.{arith}
 use Prim.Native.Nat.{◌+◌, ◌-◌, ◌≤◌}
 use lib.ListN.{length}
 use Rattle.cells.specs.Cells.{list_at}
-use Rattle.copies.proofs.Walks.{inside}
-use Rattle.assignment.proofs.Arms.{long_end, long_turn}
 use Rattle.assignment.proofs.length_at.Given as goal
 
 abbrev pub invariant-loop-a : goal.invariant-loop-a

@@ -1,8 +1,4 @@
-use mathlib.Core.Path.{◌≡◌}
 use native.Mathlib.Omega.{arith}
-use Prim.Native.Nat.{◌+◌, ◌≤◌}
-use Rattle.assignment.specs.Held.{listed}
-use Rattle.assignment.specs.Annotations.{part_size}
 use Rattle.prefix.specs.Prefix.{entry}
 use Rattle.assignment.proofs.Arms.{tally_one, size_end, size_turn}
 use Rattle.assignment.proofs.part_size.Goals as goal

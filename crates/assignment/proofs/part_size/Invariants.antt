@@ -1,10 +1,8 @@
 use mathlib.Core.Path.{◌≡◌}
-use native.Mathlib.Omega.{arith}
 use Prim.Native.Nat.{◌+◌, ◌≤◌}
 use Rattle.assignment.specs.Held.{listed}
 use Rattle.assignment.specs.Annotations.{part_size}
 use Rattle.prefix.specs.Prefix.{entry}
-use Rattle.assignment.proofs.Arms.{tally_one, size_end, size_turn}
 use Rattle.assignment.proofs.part_size.Given as goal
 
 abbrev pub invariant-loop-i : goal.invariant-loop-i

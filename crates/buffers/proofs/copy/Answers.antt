@@ -1,6 +1,6 @@
 use native.Mathlib.Omega.{arith}
-use Prim.Native.Nat.{◌+◌, ◌-◌}
-use Rattle.buffers.proofs.BufferLaws.{Copying, copying_start, copying_more, copying_end}
+use Prim.Native.Nat.{◌-◌}
+use Rattle.buffers.proofs.BufferLaws.{copying_start, copying_more, copying_end}
 use Rattle.buffers.proofs.copy.Goals as goal
 
 pub loop-k-init : goal.loop-k-init

@@ -1,6 +1,5 @@
-use native.Mathlib.Omega.{arith}
 use Prim.Native.Nat.{◌+◌, ◌-◌}
-use Rattle.buffers.proofs.BufferLaws.{Copying, copying_start, copying_more, copying_end}
+use Rattle.buffers.proofs.BufferLaws.{Copying}
 use Rattle.buffers.proofs.copy.Given as goal
 
 abbrev pub invariant-loop-k : goal.invariant-loop-k

@@ -1,4 +1,3 @@
-use native.Mathlib.Omega.{arith}
 use Rattle.buffers.proofs.BufferLaws.{dropped}
 use Rattle.buffers.proofs.keep.Goals as goal
 

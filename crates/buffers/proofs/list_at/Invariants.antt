@@ -1,10 +1,9 @@
-use native.Mathlib.Omega.{arith}
-use mathlib.Core.Path.{◌≡◌, refl, sym, ◌∙◌}
+use mathlib.Core.Path.{◌≡◌}
 use Prim.Native.Nat.{◌+◌, ◌≤◌, ◌-◌}
 use lib.ListN.{length}
 use Rattle.lists.specs.Lists.{listed_at}
-use Rattle.lists.proofs.ListLaws.{merged, merged_none, turn_lost, turn_end, turn_more, on_the_way}
-use Rattle.buffers.proofs.BufferLaws.{Keeping, keeping_start, keeping_lost, keeping_end, keeping_more}
+use Rattle.lists.proofs.ListLaws.{merged}
+use Rattle.buffers.proofs.BufferLaws.{Keeping}
 use Rattle.buffers.proofs.list_at.Given as goal
 
 abbrev pub invariant-loop-x : goal.invariant-loop-x

@@ -1,4 +1,3 @@
-use native.Mathlib.Omega.{arith}
 use Rattle.buffers.proofs.BufferLaws.{stored_from}
 use Rattle.buffers.proofs.store_line.Goals as goal
 

@@ -1,4 +1,4 @@
-use borrow.Author.Rules.{rules, sfits_of}
+use borrow.Author.Rules.{sfits_of}
 use lib.IntN.{pos}
 use lib.ListN.{get_or}
 use Rattle.cells.specs.Cells.{cell_at}

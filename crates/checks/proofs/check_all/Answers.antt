@@ -1,10 +1,6 @@
 use native.Mathlib.Omega.{arith}
-use mathlib.Core.Path.{ap}
-use Prim.Native.Nat.{◌≤◌, ◌-◌}
-use lib.ListN.{length}
-use Rattle.tables.specs.Tables.{tables}
-use Rattle.rules.specs.Needs.{Places}
-use Rattle.checks.proofs.ListLaws.{Going, going_start, going_more, going_end, going_lengths, going_out}
+use Prim.Native.Nat.{◌-◌}
+use Rattle.checks.proofs.ListLaws.{going_start, going_more, going_end}
 use Rattle.checks.proofs.check_all.Goals as goal
 
 pub loop-i-init : goal.loop-i-init

@@ -1,10 +1,7 @@
-use native.Mathlib.Omega.{arith}
-use mathlib.Core.Path.{ap}
 use Prim.Native.Nat.{◌≤◌, ◌-◌}
 use lib.ListN.{length}
 use Rattle.tables.specs.Tables.{tables}
-use Rattle.rules.specs.Needs.{Places}
-use Rattle.checks.proofs.ListLaws.{Going, going_start, going_more, going_end, going_lengths, going_out}
+use Rattle.checks.proofs.ListLaws.{Going}
 use Rattle.checks.proofs.check_all.Given as goal
 
 abbrev pub invariant-loop-i : goal.invariant-loop-i

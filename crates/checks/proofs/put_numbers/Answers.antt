@@ -1,6 +1,5 @@
 use Prim.Native.Nat.{◌-◌}
-use lib.ListN.{length}
-use Rattle.checks.proofs.ListLaws.{Partly, partly_start, partly_next, partly_end}
+use Rattle.checks.proofs.ListLaws.{partly_start, partly_next, partly_end}
 use Rattle.checks.proofs.put_numbers.Goals as goal
 
 pub loop-i-init : goal.loop-i-init

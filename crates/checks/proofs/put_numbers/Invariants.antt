@@ -1,6 +1,6 @@
 use Prim.Native.Nat.{◌-◌}
 use lib.ListN.{length}
-use Rattle.checks.proofs.ListLaws.{Partly, partly_start, partly_next, partly_end}
+use Rattle.checks.proofs.ListLaws.{Partly}
 use Rattle.checks.proofs.put_numbers.Given as goal
 
 abbrev pub invariant-loop-i : goal.invariant-loop-i

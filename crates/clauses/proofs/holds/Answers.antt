@@ -1,7 +1,5 @@
-use mathlib.Core.Path.{◌≡◌, refl, sym, ◌∙◌}
+use mathlib.Core.Path.{refl, sym, ◌∙◌}
 use Rattle.clauses.proofs.CursorLaws.{read_end, read_more, read_less}
-use Rattle.clauses.specs.Standing.{literals_from, left}
-use Rattle.rules.specs.Basics.{is_in}
 use Rattle.clauses.proofs.MemberLaws.{in_end, in_here, in_later}
 use Rattle.clauses.proofs.holds.Goals as goal
 

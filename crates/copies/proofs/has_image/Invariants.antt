@@ -1,12 +1,9 @@
-use mathlib.Core.Path.{◌≡◌, refl, sym, ◌∙◌}
-use native.Mathlib.Omega.{arith}
-use borrow.Author.Tests.{eq-eqb, ne_eqb}
+use mathlib.Core.Path.{◌≡◌}
 use Prim.Native.Nat.{◌-◌}
 use lib.ListN.{length}
 use Rattle.cells.specs.Cells.{list_at}
 use Rattle.rules.specs.Basics.{is_in}
 use Rattle.copies.specs.Copies.{stands_of, images_of}
-use Rattle.copies.proofs.Walks.{inside, image_stop, image_next, image_found}
 use Rattle.copies.proofs.has_image.Given as goal
 
 abbrev pub invariant-loop-l : goal.invariant-loop-l

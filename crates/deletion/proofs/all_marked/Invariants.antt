@@ -1,10 +1,7 @@
-use mathlib.Core.Path.{◌≡◌, refl, sym, ◌∙◌}
-use Rattle.clauses.proofs.CursorLaws.{read_end, read_more, read_less}
+use mathlib.Core.Path.{◌≡◌}
 use Rattle.clauses.specs.Standing.{literals_from, left}
 use Rattle.lines.specs.Lists.{all}
-use Rattle.rules.proofs.Kit.{not_t, not_f}
 use Rattle.trail.specs.Trail.{off}
-use Rattle.deletion.proofs.DeletionLaws.{all_end, all_yes, all_no}
 use Rattle.deletion.proofs.all_marked.Given as goal
 
 abbrev pub invariant-loop-i : goal.invariant-loop-i

@@ -1,7 +1,6 @@
 use native.Mathlib.Omega.{arith}
 use mathlib.Core.Path.{sym, ◌∙◌}
-use Prim.Native.Nat.{◌-◌, ◌≤◌}
-use Rattle.deletion.specs.Deletions.{Unmarked}
+use Prim.Native.Nat.{◌-◌}
 use Rattle.deletion.proofs.DeletionLaws.{unmarked_start, unmarked_no, unmarked_skip}
 use Rattle.deletion.proofs.candidate.Goals as goal
 

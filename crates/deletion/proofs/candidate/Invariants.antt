@@ -1,8 +1,5 @@
-use native.Mathlib.Omega.{arith}
-use mathlib.Core.Path.{sym, ◌∙◌}
 use Prim.Native.Nat.{◌-◌, ◌≤◌}
 use Rattle.deletion.specs.Deletions.{Unmarked}
-use Rattle.deletion.proofs.DeletionLaws.{unmarked_start, unmarked_no, unmarked_skip}
 use Rattle.deletion.proofs.candidate.Given as goal
 
 abbrev pub invariant-loop-place : goal.invariant-loop-place

@@ -1,9 +1,8 @@
 use native.Mathlib.Omega.{arith}
-use mathlib.Core.Path.{◌≡◌, refl, sym, ◌∙◌, ap}
+use mathlib.Core.Path.{refl, sym, ◌∙◌, ap}
 use Prim.Native.Nat.{◌-◌, ◌≤◌}
-use lib.ListN.{length, take, drop}
+use lib.ListN.{length}
 use Rattle.clauses.specs.Standing.{literals_from}
-use Rattle.lines.specs.Lists.{all}
 use Rattle.rules.specs.Basics.{is_in}
 use Rattle.rules.proofs.Kit.{not_t, not_f}
 use Rattle.deletion.proofs.DeletionLaws.{all_end, all_yes, all_no, left_none, left_more}

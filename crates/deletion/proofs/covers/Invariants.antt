@@ -1,12 +1,9 @@
-use native.Mathlib.Omega.{arith}
-use mathlib.Core.Path.{◌≡◌, refl, sym, ◌∙◌, ap}
+use mathlib.Core.Path.{◌≡◌}
 use Prim.Native.Nat.{◌-◌, ◌≤◌}
 use lib.ListN.{length, take, drop}
 use Rattle.clauses.specs.Standing.{literals_from}
 use Rattle.lines.specs.Lists.{all}
 use Rattle.rules.specs.Basics.{is_in}
-use Rattle.rules.proofs.Kit.{not_t, not_f}
-use Rattle.deletion.proofs.DeletionLaws.{all_end, all_yes, all_no, left_none, left_more}
 use Rattle.deletion.proofs.covers.Given as goal
 
 abbrev pub invariant-loop-k : goal.invariant-loop-k

@@ -1,6 +1,5 @@
 use native.Mathlib.Omega.{arith}
-use Prim.Native.Nat.{◌-◌, ◌≤◌}
-use Rattle.clauses.specs.Standing.{NoneIn}
+use Prim.Native.Nat.{◌-◌}
 use Rattle.clauses.proofs.StandingLaws.{none_start, none_more}
 use Rattle.deletion.proofs.passed.Goals as goal
 

@@ -1,9 +1,7 @@
 use native.Mathlib.Omega.{arith}
-use mathlib.Core.Path.{◌≡◌, refl, sym, ◌∙◌}
+use mathlib.Core.Path.{refl, ◌∙◌}
 use Prim.Native.Nat.{◌-◌}
-use lib.ListN.{length, take}
-use Rattle.deletion.specs.Deletions.{Listed}
-use Rattle.deletion.proofs.DeletionLaws.{Taking, taking_start, taking_pass, taking_no, taking_at, taking_end}
+use Rattle.deletion.proofs.DeletionLaws.{taking_start, taking_pass, taking_no, taking_at, taking_end}
 use Rattle.deletion.proofs.take_earliest.Goals as goal
 
 pub loop-place-init : goal.loop-place-init

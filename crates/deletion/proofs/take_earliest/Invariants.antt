@@ -1,9 +1,8 @@
-use native.Mathlib.Omega.{arith}
-use mathlib.Core.Path.{◌≡◌, refl, sym, ◌∙◌}
+use mathlib.Core.Path.{◌≡◌}
 use Prim.Native.Nat.{◌-◌}
 use lib.ListN.{length, take}
 use Rattle.deletion.specs.Deletions.{Listed}
-use Rattle.deletion.proofs.DeletionLaws.{Taking, taking_start, taking_pass, taking_no, taking_at, taking_end}
+use Rattle.deletion.proofs.DeletionLaws.{Taking}
 use Rattle.deletion.proofs.take_earliest.Given as goal
 
 abbrev pub invariant-loop-place : goal.invariant-loop-place

@@ -1,9 +1,6 @@
-use mathlib.Core.Path.{◌≡◌, sym, ◌∙◌, refl}
+use mathlib.Core.Path.{sym, ◌∙◌, refl}
 use native.Mathlib.Omega.{arith}
-use Prim.Native.Nat.{◌-◌, ◌≤◌}
-use lib.ListN.{length}
-use Rattle.copies.specs.Marks.{Unmarked}
-use Rattle.matrix.specs.Index.{any_from}
+use Prim.Native.Nat.{◌-◌}
 use Rattle.expansion.specs.Codes.{expands_at, expands_any}
 use Rattle.literals.proofs.Arms.{first_unfit}
 use Rattle.expansion.proofs.Arms.{expands_no}

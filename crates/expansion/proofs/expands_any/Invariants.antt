@@ -1,13 +1,9 @@
-use mathlib.Core.Path.{◌≡◌, sym, ◌∙◌, refl}
-use native.Mathlib.Omega.{arith}
+use mathlib.Core.Path.{◌≡◌}
 use Prim.Native.Nat.{◌-◌, ◌≤◌}
 use lib.ListN.{length}
 use Rattle.copies.specs.Marks.{Unmarked}
 use Rattle.matrix.specs.Index.{any_from}
 use Rattle.expansion.specs.Codes.{expands_at, expands_any}
-use Rattle.literals.proofs.Arms.{first_unfit}
-use Rattle.expansion.proofs.Arms.{expands_no}
-use Rattle.matrix.proofs.IndexLaws.{any_start, any_done, any_found, any_next}
 use Rattle.expansion.proofs.expands_any.Given as goal
 
 abbrev pub invariant-loop-i : goal.invariant-loop-i

@@ -1,9 +1,6 @@
-use native.Mathlib.Omega.{arith}
-use mathlib.Core.Path.{sym, ◌∙◌}
 use Prim.Native.Nat.{◌-◌}
 use lib.ListN.{length}
-use Rattle.lists.proofs.ListLaws.{on_the_way}
-use Rattle.formula.proofs.TableLaws.{Marking, marking_start, marking_lost, marking_end, marking_twice, marking_more, variable_1}
+use Rattle.formula.proofs.TableLaws.{Marking}
 use Rattle.formula.proofs.put_binding.Given as goal
 
 abbrev pub invariant-loop-x : goal.invariant-loop-x

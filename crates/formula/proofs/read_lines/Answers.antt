@@ -1,8 +1,6 @@
 use native.Mathlib.Omega.{arith}
-use mathlib.Core.Path.{◌∙◌}
 use Prim.Native.Nat.{◌-◌}
-use lib.ListN.{length}
-use Rattle.formula.proofs.FileLaws.{Going, going_start, going_long, line_ends, going_able, going_refused, going_next, going_last}
+use Rattle.formula.proofs.FileLaws.{going_start, line_ends, going_able, going_refused, going_next, going_last}
 use Rattle.formula.proofs.read_lines.Goals as goal
 
 pub loop-t-init : goal.loop-t-init

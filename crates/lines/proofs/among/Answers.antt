@@ -1,8 +1,6 @@
 use borrow.Author.Rules.{rules}
 use native.Mathlib.Omega.{arith}
 use mathlib.Core.Path.{◌≡◌}
-use Prim.Native.Nat.{◌≤◌, ◌-◌}
-use Rattle.lines.specs.Bytes.{among_entries}
 use Rattle.lines.proofs.Tables.{among_none, among_more}
 use Rattle.lines.proofs.among.Goals as goal
 

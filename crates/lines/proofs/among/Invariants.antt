@@ -1,10 +1,7 @@
 -- The loop: what the entries before the place tell. Assumes nothing.
-use borrow.Author.Rules.{rules}
-use native.Mathlib.Omega.{arith}
 use mathlib.Core.Path.{◌≡◌}
 use Prim.Native.Nat.{◌≤◌, ◌-◌}
 use Rattle.lines.specs.Bytes.{among_entries}
-use Rattle.lines.proofs.Tables.{among_none, among_more}
 use Rattle.lines.proofs.among.Given as goal
 
 abbrev pub invariant-loop-i : goal.invariant-loop-i

@@ -1,7 +1,6 @@
 use borrow.Author.Rules.{rules}
 use native.Mathlib.Omega.{arith}
-use Prim.Native.Nat.{◌≤◌, ◌-◌}
-use Rattle.lines.proofs.Runs.{Counted, counted_none, counted_on}
+use Rattle.lines.proofs.Runs.{counted_none, counted_on}
 use Rattle.lines.proofs.before_end.Goals as goal
 
 pub loop-j-init : goal.loop-j-init

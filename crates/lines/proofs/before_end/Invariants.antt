@@ -1,8 +1,6 @@
 -- The loop: how many of the bytes so far stand before the line's end, and whether none ends it. Assumes nothing.
-use borrow.Author.Rules.{rules}
-use native.Mathlib.Omega.{arith}
 use Prim.Native.Nat.{◌≤◌, ◌-◌}
-use Rattle.lines.proofs.Runs.{Counted, counted_none, counted_on}
+use Rattle.lines.proofs.Runs.{Counted}
 use Rattle.lines.proofs.before_end.Given as goal
 
 abbrev pub invariant-loop-j : goal.invariant-loop-j

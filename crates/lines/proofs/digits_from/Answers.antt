@@ -1,10 +1,7 @@
 use native.Mathlib.Omega.{arith}
-use mathlib.Core.Path.{◌≡◌, sym, ◌∙◌}
-use Prim.Native.Nat.{◌≤◌, ◌-◌}
-use lib.ListN.{length, drop}
+use mathlib.Core.Path.{sym, ◌∙◌}
 use borrow.Author.Tests.{not-true, not-false}
-use Rattle.lines.specs.Scan.{cap, digits_in}
-use Rattle.lines.proofs.Numbers.{on, on_past, on_stop, on_go, digits_none, digits_zero, digits_led, digits_on, digit_from}
+use Rattle.lines.proofs.Numbers.{on_past, on_stop, on_go, digits_none, digits_zero, digits_led, digits_on, digit_from}
 use Rattle.lines.proofs.digits_from.Goals as goal
 
 pub returns-then-word-from : goal.returns-then-word-from

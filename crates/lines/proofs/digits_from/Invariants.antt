@@ -1,11 +1,9 @@
 -- The loop: the digits that are left, after the value so far, say what all of them say. Assumes nothing.
-use native.Mathlib.Omega.{arith}
-use mathlib.Core.Path.{◌≡◌, sym, ◌∙◌}
+use mathlib.Core.Path.{◌≡◌}
 use Prim.Native.Nat.{◌≤◌, ◌-◌}
 use lib.ListN.{length, drop}
-use borrow.Author.Tests.{not-true, not-false}
 use Rattle.lines.specs.Scan.{cap, digits_in}
-use Rattle.lines.proofs.Numbers.{on, on_past, on_stop, on_go, digits_none, digits_zero, digits_led, digits_on, digit_from}
+use Rattle.lines.proofs.Numbers.{on}
 use Rattle.lines.proofs.digits_from.Given as goal
 
 abbrev pub invariant-loop-i : goal.invariant-loop-i

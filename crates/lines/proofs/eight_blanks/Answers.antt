@@ -1,12 +1,8 @@
 use borrow.Author.Rules.{rules}
 use native.Mathlib.Omega.{arith}
 use mathlib.Core.Path.{◌≡◌, sym, ◌∙◌}
-use mathlib.Core.Bool.{true}
-use Prim.Native.Nat.{◌≤◌, ◌-◌}
-use Rattle.lines.specs.declared.Run.TheVariants.{Blanks}
-use Rattle.lines.specs.Scan.{passes}
 use Rattle.lines.proofs.Classes.{and_true}
-use Rattle.lines.proofs.Runs.{Over, over_none, over_byte}
+use Rattle.lines.proofs.Runs.{over_none, over_byte}
 use Rattle.lines.proofs.eight_blanks.Goals as goal
 
 pub loop-j-init : goal.loop-j-init

@@ -1,13 +1,10 @@
 -- The loop: the run goes on over the bytes so far, if all of them are blanks. Assumes nothing.
-use borrow.Author.Rules.{rules}
-use native.Mathlib.Omega.{arith}
-use mathlib.Core.Path.{◌≡◌, sym, ◌∙◌}
+use mathlib.Core.Path.{◌≡◌}
 use mathlib.Core.Bool.{true}
 use Prim.Native.Nat.{◌≤◌, ◌-◌}
 use Rattle.lines.specs.declared.Run.TheVariants.{Blanks}
 use Rattle.lines.specs.Scan.{passes}
-use Rattle.lines.proofs.Classes.{and_true}
-use Rattle.lines.proofs.Runs.{Over, over_none, over_byte}
+use Rattle.lines.proofs.Runs.{Over}
 use Rattle.lines.proofs.eight_blanks.Given as goal
 
 abbrev pub invariant-loop-j : goal.invariant-loop-j

@@ -1,11 +1,8 @@
 use borrow.Author.Rules.{rules}
 use native.Mathlib.Omega.{arith}
 use mathlib.Core.Path.{◌≡◌, ap, sym, ◌∙◌}
-use mathlib.Core.Bool.{false, not}
-use Prim.Native.Nat.{◌≤◌, ◌-◌}
-use Rattle.lines.specs.declared.Run.TheVariants.{Line}
-use Rattle.lines.specs.Scan.{passes}
-use Rattle.lines.proofs.Runs.{or_false, Over, over_none, over_byte}
+use mathlib.Core.Bool.{not}
+use Rattle.lines.proofs.Runs.{or_false, over_none, over_byte}
 use Rattle.lines.proofs.ends_within.Goals as goal
 
 pub loop-j-init : goal.loop-j-init

@@ -1,12 +1,10 @@
 -- The loop: the line goes on over the bytes so far, if none of them ends it. Assumes nothing.
-use borrow.Author.Rules.{rules}
-use native.Mathlib.Omega.{arith}
-use mathlib.Core.Path.{◌≡◌, ap, sym, ◌∙◌}
-use mathlib.Core.Bool.{false, not}
+use mathlib.Core.Path.{◌≡◌}
+use mathlib.Core.Bool.{false}
 use Prim.Native.Nat.{◌≤◌, ◌-◌}
 use Rattle.lines.specs.declared.Run.TheVariants.{Line}
 use Rattle.lines.specs.Scan.{passes}
-use Rattle.lines.proofs.Runs.{or_false, Over, over_none, over_byte}
+use Rattle.lines.proofs.Runs.{Over}
 use Rattle.lines.proofs.ends_within.Given as goal
 
 abbrev pub invariant-loop-j : goal.invariant-loop-j

@@ -1,10 +1,7 @@
 use native.Mathlib.Omega.{arith}
-use mathlib.Core.Path.{◌≡◌, refl, ap, sym, ◌∙◌}
+use mathlib.Core.Path.{refl, ap, sym, ◌∙◌}
 use mathlib.Core.Bool.{not}
-use Prim.Native.Nat.{◌+◌, ◌-◌}
-use lib.ListN.{length, drop}
-use Rattle.lines.specs.declared.Run.TheVariants.{Line}
-use Rattle.lines.specs.Scan.{passes, run}
+use Prim.Native.Nat.{◌+◌}
 use Rattle.lines.proofs.Runs.{run_past, run_stop}
 use borrow.Author.Rules.{rules}
 use Rattle.lines.proofs.line_end.Goals as goal

@@ -1,13 +1,9 @@
 -- The loop: from the place on, the line ends where the line from the start does. Assumes nothing.
-use native.Mathlib.Omega.{arith}
-use mathlib.Core.Path.{◌≡◌, refl, ap, sym, ◌∙◌}
-use mathlib.Core.Bool.{not}
+use mathlib.Core.Path.{◌≡◌}
 use Prim.Native.Nat.{◌+◌, ◌-◌}
 use lib.ListN.{length, drop}
 use Rattle.lines.specs.declared.Run.TheVariants.{Line}
 use Rattle.lines.specs.Scan.{passes, run}
-use Rattle.lines.proofs.Runs.{run_past, run_stop}
-use borrow.Author.Rules.{rules}
 use Rattle.lines.proofs.line_end.Given as goal
 
 abbrev pub invariant-loop-i : goal.invariant-loop-i

@@ -1,5 +1,5 @@
 use native.Mathlib.Omega.{arith}
-use Rattle.lines.proofs.Parts.{Left, left_zero, left_start, left_found, left_none, left_next}
+use Rattle.lines.proofs.Parts.{left_zero, left_start, left_found, left_none, left_next}
 use Rattle.lines.proofs.line_start.Goals as goal
 
 pub returns-then-line-eq0 : goal.returns-then-line-eq0

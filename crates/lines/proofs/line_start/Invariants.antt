@@ -1,6 +1,5 @@
 -- The loop: so many bytes 10 are left to pass from the place on. Assumes nothing.
-use native.Mathlib.Omega.{arith}
-use Rattle.lines.proofs.Parts.{Left, left_zero, left_start, left_found, left_none, left_next}
+use Rattle.lines.proofs.Parts.{Left}
 use Rattle.lines.proofs.line_start.Given as goal
 
 abbrev pub invariant-loop-left : goal.invariant-loop-left

@@ -1,9 +1,7 @@
 use native.Mathlib.Omega.{arith}
-use mathlib.Core.Path.{◌≡◌, refl, ap, sym, ◌∙◌}
-use Prim.Native.Nat.{◌+◌, ◌-◌}
-use lib.ListN.{length, drop}
+use mathlib.Core.Path.{refl, ap, sym, ◌∙◌}
+use Prim.Native.Nat.{◌+◌}
 use borrow.Author.Tests.{not-true, not-false}
-use Rattle.lines.specs.Scan.{passes, run}
 use Rattle.lines.proofs.Runs.{run_past, run_stop, run_go}
 use Rattle.lines.proofs.past.Goals as goal
 

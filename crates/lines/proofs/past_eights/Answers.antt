@@ -1,10 +1,7 @@
 use native.Mathlib.Omega.{arith}
-use mathlib.Core.Path.{◌≡◌, refl, ap, ◌∙◌}
-use Prim.Native.Nat.{◌+◌, ◌-◌}
-use lib.ListN.{length, drop}
+use mathlib.Core.Path.{refl, ap, ◌∙◌}
+use Prim.Native.Nat.{◌+◌}
 use borrow.Author.Tests.{not-false}
-use Rattle.lines.specs.declared.Run.TheVariants.{Blanks}
-use Rattle.lines.specs.Scan.{passes, run}
 use Rattle.lines.proofs.past_eights.Goals as goal
 
 pub loop-i-init : goal.loop-i-init

@@ -1,9 +1,7 @@
 -- The loop: from the place on, the run ends where the run from the start does. Assumes nothing.
-use native.Mathlib.Omega.{arith}
-use mathlib.Core.Path.{◌≡◌, refl, ap, ◌∙◌}
+use mathlib.Core.Path.{◌≡◌}
 use Prim.Native.Nat.{◌+◌, ◌-◌}
 use lib.ListN.{length, drop}
-use borrow.Author.Tests.{not-false}
 use Rattle.lines.specs.declared.Run.TheVariants.{Blanks}
 use Rattle.lines.specs.Scan.{passes, run}
 use Rattle.lines.proofs.past_eights.Given as goal

@@ -1,7 +1,4 @@
-use mathlib.Core.Path.{◌≡◌, refl, ◌∙◌}
-use Prim.Native.Nat.{◌-◌}
-use lib.ListN.{length, drop}
-use Rattle.lines.specs.Bytes.{same_bytes}
+use mathlib.Core.Path.{refl, ◌∙◌}
 use Rattle.lines.proofs.Heads.{same_short, same_differ, same_go, same_end}
 use Rattle.lines.proofs.same.Goals as goal
 

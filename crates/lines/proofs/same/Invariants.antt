@@ -1,9 +1,8 @@
 -- The loop: what is left of both is the same exactly if the whole is. Assumes nothing.
-use mathlib.Core.Path.{◌≡◌, refl, ◌∙◌}
+use mathlib.Core.Path.{◌≡◌}
 use Prim.Native.Nat.{◌-◌}
 use lib.ListN.{length, drop}
 use Rattle.lines.specs.Bytes.{same_bytes}
-use Rattle.lines.proofs.Heads.{same_short, same_differ, same_go, same_end}
 use Rattle.lines.proofs.same.Given as goal
 
 abbrev pub invariant-loop-i : goal.invariant-loop-i

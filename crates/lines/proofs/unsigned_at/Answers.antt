@@ -1,10 +1,8 @@
 use native.Mathlib.Omega.{arith}
 use mathlib.Core.Path.{sym, ◌∙◌}
-use Prim.Native.Nat.{◌-◌}
-use lib.ListN.{length}
 use borrow.Author.Tests.{not-false}
 use Rattle.lines.proofs.Numbers.{digit_from, digit_below}
-use Rattle.lines.proofs.Walks.{Walked, walk_first, walk_on, walk_blank, walk_past, tells_nothing}
+use Rattle.lines.proofs.Walks.{walk_first, walk_on, walk_blank, walk_past, tells_nothing}
 use borrow.Author.Rules.{rules}
 use Rattle.lines.proofs.unsigned_at.Goals as goal
 

@@ -1,12 +1,7 @@
 -- The loop: the digits before the place say the value so far, and the word from there on ends where the number does. Assumes nothing.
-use native.Mathlib.Omega.{arith}
-use mathlib.Core.Path.{sym, ◌∙◌}
 use Prim.Native.Nat.{◌-◌}
 use lib.ListN.{length}
-use borrow.Author.Tests.{not-false}
-use Rattle.lines.proofs.Numbers.{digit_from, digit_below}
-use Rattle.lines.proofs.Walks.{Walked, walk_first, walk_on, walk_blank, walk_past, tells_nothing}
-use borrow.Author.Rules.{rules}
+use Rattle.lines.proofs.Walks.{Walked}
 use Rattle.lines.proofs.unsigned_at.Given as goal
 
 abbrev pub invariant-loop-i : goal.invariant-loop-i

@@ -1,11 +1,6 @@
 use borrow.Author.Rules.{rules}
 use native.Mathlib.Omega.{arith}
-use mathlib.Core.Path.{◌≡◌}
-use Prim.Native.Nat.{◌-◌, ◌≤◌, max}
-use lib.ListN.{length, drop}
-use Rattle.lines.specs.Lines.{lines_of}
 use Rattle.lines.proofs.Runs.{line_within}
-use Rattle.lines_c.specs.Largest.{in_lines}
 use Rattle.lines_c.proofs.Laws.{last_line, next_line}
 use Rattle.lines_c.proofs.hutsvida_largest.Goals as goal
 

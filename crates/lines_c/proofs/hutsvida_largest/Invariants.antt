@@ -1,13 +1,9 @@
 -- The loop: the larger of what was read and of the lines that are left. Assumes nothing.
-use borrow.Author.Rules.{rules}
-use native.Mathlib.Omega.{arith}
 use mathlib.Core.Path.{◌≡◌}
 use Prim.Native.Nat.{◌-◌, ◌≤◌, max}
 use lib.ListN.{length, drop}
 use Rattle.lines.specs.Lines.{lines_of}
-use Rattle.lines.proofs.Runs.{line_within}
 use Rattle.lines_c.specs.Largest.{in_lines}
-use Rattle.lines_c.proofs.Laws.{last_line, next_line}
 use Rattle.lines_c.proofs.hutsvida_largest.Given as goal
 
 abbrev pub invariant-loop-m : goal.invariant-loop-m

@@ -1,10 +1,6 @@
 use native.Mathlib.Omega.{arith}
-use mathlib.Core.Path.{◌≡◌, sym, ◌∙◌}
-use Prim.Native.Nat.{◌-◌, max}
-use lib.ListN.{length}
-use Rattle.lines.specs.Scan.{tokens_from}
+use mathlib.Core.Path.{sym, ◌∙◌}
 use Rattle.lines.proofs.Words.{literal_told}
-use Rattle.lines_c.specs.Largest.{largest}
 use Rattle.lines_c.proofs.Laws.{one_more, no_more}
 use Rattle.lines_c.proofs.in_tokens.Goals as goal
 

@@ -1,12 +1,9 @@
 -- The loop: the larger of what was read and of what is left. Assumes nothing.
-use native.Mathlib.Omega.{arith}
-use mathlib.Core.Path.{◌≡◌, sym, ◌∙◌}
+use mathlib.Core.Path.{◌≡◌}
 use Prim.Native.Nat.{◌-◌, max}
 use lib.ListN.{length}
 use Rattle.lines.specs.Scan.{tokens_from}
-use Rattle.lines.proofs.Words.{literal_told}
 use Rattle.lines_c.specs.Largest.{largest}
-use Rattle.lines_c.proofs.Laws.{one_more, no_more}
 use Rattle.lines_c.proofs.in_tokens.Given as goal
 
 abbrev pub invariant-loop-x : goal.invariant-loop-x

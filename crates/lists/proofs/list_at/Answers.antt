@@ -1,9 +1,7 @@
 use native.Mathlib.Omega.{arith}
-use mathlib.Core.Path.{◌≡◌, sym, ◌∙◌}
-use Prim.Native.Nat.{◌+◌, ◌≤◌, ◌-◌}
-use lib.ListN.{length}
-use Rattle.lists.specs.Lists.{listed_at}
-use Rattle.lists.proofs.ListLaws.{merged, merged_none, turn_lost, turn_end, turn_more, on_the_way}
+use mathlib.Core.Path.{sym, ◌∙◌}
+use Prim.Native.Nat.{◌-◌}
+use Rattle.lists.proofs.ListLaws.{merged_none, turn_lost, turn_end, turn_more, on_the_way}
 use Rattle.lists.proofs.list_at.Goals as goal
 
 pub loop-x-init : goal.loop-x-init

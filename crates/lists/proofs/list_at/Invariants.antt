@@ -1,9 +1,8 @@
-use native.Mathlib.Omega.{arith}
-use mathlib.Core.Path.{◌≡◌, sym, ◌∙◌}
+use mathlib.Core.Path.{◌≡◌}
 use Prim.Native.Nat.{◌+◌, ◌≤◌, ◌-◌}
 use lib.ListN.{length}
 use Rattle.lists.specs.Lists.{listed_at}
-use Rattle.lists.proofs.ListLaws.{merged, merged_none, turn_lost, turn_end, turn_more, on_the_way}
+use Rattle.lists.proofs.ListLaws.{merged}
 use Rattle.lists.proofs.list_at.Given as goal
 
 abbrev pub invariant-loop-x : goal.invariant-loop-x

@@ -1,9 +1,8 @@
 use native.Mathlib.Omega.{arith}
 use mathlib.Core.Path.{sym, ◌∙◌}
 use Prim.Native.Nat.{◌-◌}
-use lib.ListN.{length}
 use Rattle.lists.proofs.ListLaws.{on_the_way}
-use Rattle.lists.proofs.StoreLaws.{Storing, storing_start, storing_lost, storing_end, storing_more}
+use Rattle.lists.proofs.StoreLaws.{storing_start, storing_lost, storing_end, storing_more}
 use Rattle.lists.proofs.store_list.Goals as goal
 
 pub loop-x-init : goal.loop-x-init

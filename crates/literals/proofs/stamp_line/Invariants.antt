@@ -1,14 +1,11 @@
-use mathlib.Core.Path.{◌≡◌, refl, sym, ◌∙◌}
-use native.Mathlib.Omega.{arith}
+use mathlib.Core.Path.{◌≡◌}
 use Prim.Native.Nat.{◌-◌}
 use lib.ListN.{length}
 use Rattle.lines.specs.Lists.{all}
 use Rattle.cells.specs.Cells.{list_at}
 use Rattle.prefix.specs.Prefix.{entry}
 use Rattle.copies.specs.Copies.{stands_of}
-use Rattle.copies.proofs.Walks.{inside, all_stop}
 use Rattle.literals.specs.Marks.{meets, stamped_by}
-use Rattle.literals.proofs.MarkLaws.{stamped_stop, stamped_next, stamped_fail}
 use Rattle.literals.proofs.stamp_line.Given as goal
 
 abbrev pub invariant-loop-l : goal.invariant-loop-l

@@ -1,14 +1,8 @@
-use mathlib.Core.Path.{◌≡◌, refl, sym, ◌∙◌}
-use mathlib.Core.Bool.{◌&&◌}
+use mathlib.Core.Path.{refl, sym, ◌∙◌}
 use native.Mathlib.Omega.{arith}
 use Prim.Native.Nat.{◌-◌}
-use lib.ListN.{length}
 use Rattle.lines.specs.Lists.{all}
-use Rattle.cells.specs.Cells.{list_at}
-use Rattle.prefix.specs.Prefix.{entry}
-use Rattle.copies.specs.Copies.{stands_of}
 use Rattle.copies.proofs.Walks.{inside}
-use Rattle.literals.specs.Marks.{answered, cleared}
 use Rattle.literals.proofs.MarkLaws.{back_stop, back_next}
 use Rattle.literals.proofs.take_back.Goals as goal
 

@@ -1,9 +1,6 @@
 use native.Mathlib.Omega.{arith}
-use mathlib.Core.Path.{◌≡◌, refl}
+use mathlib.Core.Path.{refl}
 use Prim.Native.Nat.{◌-◌}
-use lib.ListN.{length}
-use Rattle.mapped.specs.Numbers.{numbers_at, end_of}
-use Rattle.mapped.specs.Marks.{noting}
 use Rattle.mapped.proofs.NumberLaws.{item_told}
 use Rattle.mapped.proofs.MarkLaws.{noting_end, noting_high, noting_old, noting_more}
 use Rattle.mapped.proofs.note.Goals as goal

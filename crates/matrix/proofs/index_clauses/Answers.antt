@@ -1,5 +1,5 @@
-use mathlib.Core.Path.{◌≡◌, ap, ◌∙◌}
-use Prim.Native.Nat.{◌-◌, ◌≤◌}
+use mathlib.Core.Path.{ap, ◌∙◌}
+use Prim.Native.Nat.{◌-◌}
 use native.Mathlib.Omega.{arith}
 use Rattle.matrix.specs.Index.{index_from, index_of}
 use Rattle.matrix.proofs.IndexLaws.{turn_end, turn_on, walk_start, walk_done}

@@ -1,8 +1,6 @@
-use mathlib.Core.Path.{◌≡◌, ap, ◌∙◌}
+use mathlib.Core.Path.{◌≡◌}
 use Prim.Native.Nat.{◌-◌, ◌≤◌}
-use native.Mathlib.Omega.{arith}
-use Rattle.matrix.specs.Index.{index_from, index_of}
-use Rattle.matrix.proofs.IndexLaws.{turn_end, turn_on, walk_start, walk_done}
+use Rattle.matrix.specs.Index.{index_from}
 use Rattle.matrix.proofs.index_clauses.Given as goal
 
 abbrev pub invariant-loop-k : goal.invariant-loop-k

@@ -1,10 +1,6 @@
 use native.Mathlib.Omega.{arith}
-use mathlib.Core.Path.{◌≡◌, refl}
+use mathlib.Core.Path.{refl}
 use Prim.Native.Nat.{◌-◌}
-use lib.ListN.{length}
-use Rattle.lines.specs.Lists.{all}
-use Rattle.cells.specs.Cells.{list_at}
-use Rattle.prefix.specs.Prefix.{is_bound}
 use Rattle.prefix.proofs.TableLaws.{bound_end, code_within, bound_not, bound_more}
 use Rattle.prefix.proofs.all_bound.Goals as goal
 

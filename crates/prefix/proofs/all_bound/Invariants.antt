@@ -1,11 +1,9 @@
-use native.Mathlib.Omega.{arith}
-use mathlib.Core.Path.{◌≡◌, refl}
+use mathlib.Core.Path.{◌≡◌}
 use Prim.Native.Nat.{◌-◌}
 use lib.ListN.{length}
 use Rattle.lines.specs.Lists.{all}
 use Rattle.cells.specs.Cells.{list_at}
 use Rattle.prefix.specs.Prefix.{is_bound}
-use Rattle.prefix.proofs.TableLaws.{bound_end, code_within, bound_not, bound_more}
 use Rattle.prefix.proofs.all_bound.Given as goal
 
 abbrev pub invariant-loop-from : goal.invariant-loop-from

@@ -1,5 +1,5 @@
 use Prim.Native.Nat.{◌-◌}
-use Rattle.prefix.proofs.TableLaws.{Zeroing, zeroing_start, zeroing_more, zeroing_end}
+use Rattle.prefix.proofs.TableLaws.{zeroing_start, zeroing_more, zeroing_end}
 use Rattle.prefix.proofs.clear.Goals as goal
 
 pub loop-i-init : goal.loop-i-init

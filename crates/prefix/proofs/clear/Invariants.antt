@@ -1,5 +1,5 @@
 use Prim.Native.Nat.{◌-◌}
-use Rattle.prefix.proofs.TableLaws.{Zeroing, zeroing_start, zeroing_more, zeroing_end}
+use Rattle.prefix.proofs.TableLaws.{Zeroing}
 use Rattle.prefix.proofs.clear.Given as goal
 
 abbrev pub invariant-loop-i : goal.invariant-loop-i

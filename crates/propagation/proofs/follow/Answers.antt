@@ -1,8 +1,6 @@
 use Prim.Native.Nat.{◌-◌}
 use native.Mathlib.Omega.{arith}
-use Rattle.clauses.specs.Standing.{standing}
-use Rattle.trail.specs.Trail.{Ready}
-use Rattle.propagation.specs.Answers.{Good, Moved, Visited}
+use Rattle.propagation.specs.Answers.{Visited}
 use Rattle.propagation.proofs.MoveLaws.{moved_refl}
 use Rattle.propagation.proofs.AnswerLaws.{visited_clash, visited_moved, moved_on, clash_on}
 use Rattle.propagation.proofs.follow.Goals as goal

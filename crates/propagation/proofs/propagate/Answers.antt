@@ -1,8 +1,4 @@
 use native.Mathlib.Omega.{arith}
-use Prim.Native.Nat.{◌+◌, ◌≤◌}
-use Rattle.clauses.specs.Standing.{standing}
-use Rattle.trail.specs.Trail.{Ready}
-use Rattle.propagation.specs.Answers.{Good, Moved}
 use Rattle.trail.proofs.TrailLaws.{flip_small, assumed_up, never_full}
 use Rattle.propagation.proofs.MoveLaws.{moved_refl, moved_unit, read_clash}
 use Rattle.propagation.proofs.AnswerLaws.{visited_clash, visited_moved, moved_on, settle_clash, settle_good, scanned_falsified, scanned_unit, scanned_good}

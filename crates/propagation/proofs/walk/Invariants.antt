@@ -1,9 +1,6 @@
-use native.Mathlib.Omega.{arith}
 use Rattle.clauses.specs.Standing.{standing}
 use Rattle.trail.specs.Trail.{Ready}
-use Rattle.propagation.specs.Answers.{Good, Moved, Visited}
-use Rattle.propagation.proofs.MoveLaws.{moved_refl}
-use Rattle.propagation.proofs.AnswerLaws.{turned_clash, turned_moved, moved_on, clash_on}
+use Rattle.propagation.specs.Answers.{Good, Moved}
 use Rattle.propagation.proofs.walk.Given as goal
 
 abbrev pub invariant-loop-steps : goal.invariant-loop-steps

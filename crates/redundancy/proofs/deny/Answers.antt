@@ -1,9 +1,6 @@
 use mathlib.Core.Path.{sym, ◌∙◌}
 use Rattle.clauses.proofs.CursorLaws.{read_end, read_more, read_less}
-use Rattle.clauses.specs.Standing.{literals_from, left}
-use Rattle.trail.specs.Trail.{Ready}
-use Rattle.redundancy.specs.Additions.{less_code}
-use Rattle.redundancy.proofs.DenyLaws.{Denying, denying_start, denying_done, denying_skip, denying_stop, denying_lit, less_end, less_lit, less_skip}
+use Rattle.redundancy.proofs.DenyLaws.{denying_start, denying_done, denying_skip, denying_stop, denying_lit, less_end, less_lit, less_skip}
 use Rattle.redundancy.proofs.deny.Goals as goal
 
 pub loop-i-init : goal.loop-i-init

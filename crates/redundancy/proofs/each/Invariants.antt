@@ -1,11 +1,8 @@
-use native.Mathlib.Omega.{arith}
-use mathlib.Core.Path.{sym, ◌∙◌}
 use Prim.Native.Nat.{◌-◌}
 use Rattle.clauses.specs.Standing.{standing, literals_from}
 use Rattle.trail.specs.Trail.{Ready}
 use Rattle.redundancy.specs.Additions.{Follows}
-use Rattle.rules.proofs.Kit.{not_t, not_f}
-use Rattle.redundancy.proofs.AdditionLaws.{Walking, walking_start, walking_end, walking_off, walking_out, walking_yes, walking_no, follows_kept}
+use Rattle.redundancy.proofs.AdditionLaws.{Walking}
 use Rattle.redundancy.proofs.each.Given as goal
 
 abbrev pub invariant-loop-k : goal.invariant-loop-k

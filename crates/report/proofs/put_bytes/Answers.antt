@@ -1,8 +1,6 @@
 use native.Mathlib.Omega.{arith}
-use Prim.Native.Nat.{◌≤◌, ◌-◌}
-use lib.ListN.{length, take}
+use Prim.Native.Nat.{◌-◌}
 use lib.Seq.{take_all}
-use Rattle.report.specs.Written.{Written}
 use Rattle.report.proofs.Writing.{written_none, written_next, written_as}
 use Rattle.report.proofs.put_bytes.Goals as goal
 

@@ -1,9 +1,6 @@
-use native.Mathlib.Omega.{arith}
 use Prim.Native.Nat.{◌≤◌, ◌-◌}
 use lib.ListN.{length, take}
-use lib.Seq.{take_all}
 use Rattle.report.specs.Written.{Written}
-use Rattle.report.proofs.Writing.{written_none, written_next, written_as}
 use Rattle.report.proofs.put_bytes.Given as goal
 
 abbrev pub invariant-loop-i : goal.invariant-loop-i

@@ -1,11 +1,6 @@
-use native.Mathlib.Omega.{arith}
-use mathlib.Core.Path.{ap}
 use Prim.Native.Nat.{◌≤◌, ◌+◌, ◌*◌, ◌-◌}
 use lib.ListN.{length, take}
-use lib.Seq.{take_all}
 use Rattle.report.specs.Written.{Written, after_commas}
-use Rattle.report.proofs.Writing.{written_none, written_then, written_as}
-use Rattle.report.proofs.FieldsLaw.{after_next}
 use Rattle.report.proofs.put_fields.Given as goal
 
 abbrev pub invariant-loop-i : goal.invariant-loop-i

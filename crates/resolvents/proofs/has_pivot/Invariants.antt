@@ -1,9 +1,7 @@
-use mathlib.Core.Path.{◌≡◌, sym, ◌∙◌, ap}
+use mathlib.Core.Path.{◌≡◌}
 use Rattle.lines.specs.Lists.{any}
 use Rattle.clauses.specs.Standing.{literals_from, left}
-use Rattle.clauses.proofs.CursorLaws.{read_end, read_more, read_less}
 use Rattle.resolvents.specs.Marks.{in_all, pivot, candidates}
-use Rattle.resolvents.proofs.WalkLaws.{any_end, any_here, any_later, flip_within, by_first, by_second, by_clause}
 use Rattle.resolvents.proofs.has_pivot.Given as goal
 
 abbrev pub invariant-loop-i : goal.invariant-loop-i

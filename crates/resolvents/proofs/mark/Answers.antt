@@ -1,7 +1,6 @@
-use mathlib.Core.Path.{◌≡◌, refl, sym, ◌∙◌}
-use Rattle.clauses.specs.Standing.{literals_from, left}
+use mathlib.Core.Path.{refl, sym, ◌∙◌}
 use Rattle.clauses.proofs.CursorLaws.{read_end, read_more, read_less}
-use Rattle.resolvents.specs.Marks.{each, to}
+use Rattle.resolvents.specs.Marks.{to}
 use Rattle.resolvents.proofs.WalkLaws.{each_end, each_more}
 use Rattle.resolvents.proofs.mark.Goals as goal
 

@@ -1,8 +1,6 @@
-use mathlib.Core.Path.{◌≡◌, refl, sym, ◌∙◌}
+use mathlib.Core.Path.{◌≡◌}
 use Rattle.clauses.specs.Standing.{literals_from, left}
-use Rattle.clauses.proofs.CursorLaws.{read_end, read_more, read_less}
 use Rattle.resolvents.specs.Marks.{each, to}
-use Rattle.resolvents.proofs.WalkLaws.{each_end, each_more}
 use Rattle.resolvents.proofs.mark.Given as goal
 
 abbrev pub invariant-loop-i : goal.invariant-loop-i

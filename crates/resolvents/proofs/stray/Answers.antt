@@ -1,9 +1,7 @@
-use mathlib.Core.Path.{◌≡◌, refl, sym, ◌∙◌}
-use Prim.Native.Nat.{◌<◌}
+use mathlib.Core.Path.{refl, sym, ◌∙◌}
 use native.Mathlib.Omega.{arith}
-use Rattle.clauses.specs.Standing.{literals_from, left}
 use Rattle.clauses.proofs.CursorLaws.{read_end, read_more, read_less}
-use Rattle.resolvents.specs.Marks.{each, raise, lacks, stray}
+use Rattle.resolvents.specs.Marks.{raise}
 use Rattle.resolvents.proofs.WalkLaws.{each_end, each_more, stray_end, stray_more, met_small}
 use Rattle.resolvents.proofs.stray.Goals as goal
 

@@ -1,8 +1,6 @@
-use mathlib.Core.Path.{◌≡◌, refl, sym, ◌∙◌}
-use mathlib.Core.Bool.{◌&&◌}
-use Rattle.clauses.specs.Standing.{literals_from, left}
+use mathlib.Core.Path.{refl, sym, ◌∙◌}
 use Rattle.clauses.proofs.CursorLaws.{read_end, read_more, read_less}
-use Rattle.resolvents.specs.Marks.{each, to, covered}
+use Rattle.resolvents.specs.Marks.{to}
 use Rattle.resolvents.proofs.WalkLaws.{each_end, each_more, covered_end, covered_more}
 use Rattle.resolvents.proofs.unmark.Goals as goal
 

@@ -1,9 +1,7 @@
-use mathlib.Core.Path.{◌≡◌, refl, sym, ◌∙◌}
+use mathlib.Core.Path.{◌≡◌}
 use mathlib.Core.Bool.{◌&&◌}
 use Rattle.clauses.specs.Standing.{literals_from, left}
-use Rattle.clauses.proofs.CursorLaws.{read_end, read_more, read_less}
 use Rattle.resolvents.specs.Marks.{each, to, covered}
-use Rattle.resolvents.proofs.WalkLaws.{each_end, each_more, covered_end, covered_more}
 use Rattle.resolvents.proofs.unmark.Given as goal
 
 abbrev pub invariant-loop-i : goal.invariant-loop-i

@@ -1,7 +1,5 @@
-use Prim.Native.Nat.{◌≤◌}
 use native.Mathlib.Omega.{arith}
 use mathlib.Core.Path.{◌∙◌, sym}
-use Rattle.trail.specs.Trail.{Trailed, Undone}
 use Rattle.trail.proofs.TrailLaws.{undone_start, undone_step, undone_at}
 use Rattle.trail.proofs.undo.Goals as goal
 

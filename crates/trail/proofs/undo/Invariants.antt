@@ -1,8 +1,5 @@
 use Prim.Native.Nat.{◌≤◌}
-use native.Mathlib.Omega.{arith}
-use mathlib.Core.Path.{◌∙◌, sym}
 use Rattle.trail.specs.Trail.{Trailed, Undone}
-use Rattle.trail.proofs.TrailLaws.{undone_start, undone_step, undone_at}
 use Rattle.trail.proofs.undo.Given as goal
 
 abbrev pub invariant-loop-n : goal.invariant-loop-n

@@ -1,7 +1,5 @@
-use mathlib.Core.Path.{◌≡◌, refl, sym, ◌∙◌}
-use Rattle.clauses.specs.Standing.{literals_from, left}
+use mathlib.Core.Path.{refl, sym, ◌∙◌}
 use Rattle.clauses.proofs.CursorLaws.{read_end, read_more, read_less}
-use Rattle.unmapped.specs.Copies.{all_mapped}
 use Rattle.unmapped.proofs.CopyLaws.{mapped_end, mapped_more, mapped_not}
 use Rattle.unmapped.proofs.all_mapped.Goals as goal
 

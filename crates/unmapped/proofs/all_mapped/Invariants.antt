@@ -1,8 +1,6 @@
-use mathlib.Core.Path.{◌≡◌, refl, sym, ◌∙◌}
+use mathlib.Core.Path.{◌≡◌}
 use Rattle.clauses.specs.Standing.{literals_from, left}
-use Rattle.clauses.proofs.CursorLaws.{read_end, read_more, read_less}
 use Rattle.unmapped.specs.Copies.{all_mapped}
-use Rattle.unmapped.proofs.CopyLaws.{mapped_end, mapped_more, mapped_not}
 use Rattle.unmapped.proofs.all_mapped.Given as goal
 
 abbrev pub invariant-loop-c : goal.invariant-loop-c

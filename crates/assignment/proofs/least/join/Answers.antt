@@ -1,9 +1,6 @@
-use mathlib.Core.Path.{◌≡◌, refl, ◌∙◌}
+use mathlib.Core.Path.{refl, ◌∙◌}
 use native.Mathlib.Omega.{arith}
-use Prim.Native.Nat.{◌-◌, ◌≤◌}
-use lib.ListN.{length}
-use Rattle.cells.specs.Cells.{list_at}
-use Rattle.assignment.specs.Held.{listed, joined, Held}
+use Prim.Native.Nat.{◌-◌}
 use Rattle.copies.proofs.Walks.{inside}
 use Rattle.assignment.proofs.Arms.{join_stop, join_turn}
 use Rattle.assignment.proofs.least.join.Goals as goal

@@ -1,11 +1,8 @@
-use mathlib.Core.Path.{◌≡◌, refl, ◌∙◌}
-use native.Mathlib.Omega.{arith}
+use mathlib.Core.Path.{◌≡◌}
 use Prim.Native.Nat.{◌-◌, ◌≤◌}
 use lib.ListN.{length}
 use Rattle.cells.specs.Cells.{list_at}
 use Rattle.assignment.specs.Held.{listed, joined, Held}
-use Rattle.copies.proofs.Walks.{inside}
-use Rattle.assignment.proofs.Arms.{join_stop, join_turn}
 use Rattle.assignment.proofs.least.join.Given as goal
 
 abbrev pub invariant-loop-n : goal.invariant-loop-n

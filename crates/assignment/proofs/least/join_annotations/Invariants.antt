@@ -1,13 +1,10 @@
-use mathlib.Core.Path.{◌≡◌, refl, ◌∙◌}
-use native.Mathlib.Omega.{arith}
+use mathlib.Core.Path.{◌≡◌}
 use Prim.Native.Nat.{◌-◌, ◌≤◌}
 use lib.ListN.{length}
 use Rattle.cells.specs.Cells.{list_at}
 use Rattle.assignment.specs.Held.{listed, joined, Held}
-use Rattle.copies.proofs.Walks.{inside}
 use Rattle.copies.specs.Copies.{annotation_of}
 use Rattle.assignment.specs.Annotations.{annotations_of}
-use Rattle.assignment.proofs.Arms.{join_past, notes_stop, notes_turn}
 use Rattle.assignment.proofs.least.join_annotations.Given as goal
 
 abbrev pub invariant-loop-n : goal.invariant-loop-n

@@ -1,12 +1,7 @@
-use mathlib.Core.Path.{◌≡◌, refl, ◌∙◌}
+use mathlib.Core.Path.{refl, ◌∙◌}
 use native.Mathlib.Omega.{arith}
-use Prim.Native.Nat.{◌-◌, ◌≤◌}
-use lib.ListN.{length}
-use Rattle.cells.specs.Cells.{list_at}
-use Rattle.assignment.specs.Held.{listed, joined, Held}
+use Prim.Native.Nat.{◌-◌}
 use Rattle.copies.proofs.Walks.{inside}
-use Rattle.prefix.specs.Prefix.{entry}
-use Rattle.assignment.specs.Annotations.{negations}
 use Rattle.assignment.proofs.Arms.{negations_stop, negations_turn}
 use Rattle.assignment.proofs.least.join_negations.Goals as goal
 

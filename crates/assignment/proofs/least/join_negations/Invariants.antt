@@ -1,13 +1,10 @@
-use mathlib.Core.Path.{◌≡◌, refl, ◌∙◌}
-use native.Mathlib.Omega.{arith}
+use mathlib.Core.Path.{◌≡◌}
 use Prim.Native.Nat.{◌-◌, ◌≤◌}
 use lib.ListN.{length}
 use Rattle.cells.specs.Cells.{list_at}
 use Rattle.assignment.specs.Held.{listed, joined, Held}
-use Rattle.copies.proofs.Walks.{inside}
 use Rattle.prefix.specs.Prefix.{entry}
 use Rattle.assignment.specs.Annotations.{negations}
-use Rattle.assignment.proofs.Arms.{negations_stop, negations_turn}
 use Rattle.assignment.proofs.least.join_negations.Given as goal
 
 abbrev pub invariant-loop-n : goal.invariant-loop-n

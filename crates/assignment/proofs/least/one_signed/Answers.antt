@@ -1,8 +1,5 @@
-use mathlib.Core.Path.{◌≡◌, refl}
-use native.Mathlib.Omega.{arith}
-use Rattle.lines.specs.Lists.{all}
-use Rattle.assignment.specs.Held.{listed, Held}
-use Rattle.assignment.specs.Annotations.{alone, apart}
+use mathlib.Core.Path.{refl}
+use Rattle.assignment.specs.Annotations.{apart}
 use Rattle.assignment.proofs.Arms.{apart_none, apart_clash, apart_next}
 use Rattle.assignment.proofs.least.one_signed.Goals as goal
 

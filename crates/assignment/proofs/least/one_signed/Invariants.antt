@@ -1,9 +1,7 @@
-use mathlib.Core.Path.{◌≡◌, refl}
-use native.Mathlib.Omega.{arith}
+use mathlib.Core.Path.{◌≡◌}
 use Rattle.lines.specs.Lists.{all}
 use Rattle.assignment.specs.Held.{listed, Held}
 use Rattle.assignment.specs.Annotations.{alone, apart}
-use Rattle.assignment.proofs.Arms.{apart_none, apart_clash, apart_next}
 use Rattle.assignment.proofs.least.one_signed.Given as goal
 
 abbrev pub invariant-loop-i : goal.invariant-loop-i

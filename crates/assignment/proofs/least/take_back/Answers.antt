@@ -1,9 +1,8 @@
-use mathlib.Core.Path.{◌≡◌, refl, ◌∙◌}
+use mathlib.Core.Path.{refl, ◌∙◌}
 use native.Mathlib.Omega.{arith}
 use Prim.Native.Nat.{ℕ}
-use lib.ListN.{length, length-set}
-use Rattle.assignment.specs.Held.{Held}
-use Rattle.assignment.proofs.HeldLaws.{Left, left_all, left_none, left_more, left_out}
+use lib.ListN.{length-set}
+use Rattle.assignment.proofs.HeldLaws.{left_all, left_none, left_more, left_out}
 use Rattle.assignment.proofs.least.take_back.Goals as goal
 
 pub loop-i-init : goal.loop-i-init

@@ -1,9 +1,7 @@
-use mathlib.Core.Path.{◌≡◌, refl, ◌∙◌}
-use native.Mathlib.Omega.{arith}
-use Prim.Native.Nat.{ℕ}
-use lib.ListN.{length, length-set}
+use mathlib.Core.Path.{◌≡◌}
+use lib.ListN.{length}
 use Rattle.assignment.specs.Held.{Held}
-use Rattle.assignment.proofs.HeldLaws.{Left, left_all, left_none, left_more, left_out}
+use Rattle.assignment.proofs.HeldLaws.{Left}
 use Rattle.assignment.proofs.least.take_back.Given as goal
 
 abbrev pub invariant-loop-i : goal.invariant-loop-i

@@ -1,10 +1,7 @@
-use mathlib.Core.Path.{◌≡◌, refl, sym, ◌∙◌}
+use mathlib.Core.Path.{refl, sym, ◌∙◌}
 use native.Mathlib.Omega.{arith}
 use borrow.Author.Tests.{eq-eqb, ne_eqb}
 use Prim.Native.Nat.{◌-◌}
-use lib.ListN.{length}
-use Rattle.cells.specs.Cells.{list_at}
-use Rattle.rules.specs.Basics.{is_in}
 use Rattle.copies.proofs.Walks.{inside, in_stop, in_next, in_found}
 use Rattle.copies.proofs.marks.has.Goals as goal
 

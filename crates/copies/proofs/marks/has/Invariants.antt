@@ -1,11 +1,8 @@
-use mathlib.Core.Path.{◌≡◌, refl, sym, ◌∙◌}
-use native.Mathlib.Omega.{arith}
-use borrow.Author.Tests.{eq-eqb, ne_eqb}
+use mathlib.Core.Path.{◌≡◌}
 use Prim.Native.Nat.{◌-◌}
 use lib.ListN.{length}
 use Rattle.cells.specs.Cells.{list_at}
 use Rattle.rules.specs.Basics.{is_in}
-use Rattle.copies.proofs.Walks.{inside, in_stop, in_next, in_found}
 use Rattle.copies.proofs.marks.has.Given as goal
 
 abbrev pub invariant-loop-a : goal.invariant-loop-a

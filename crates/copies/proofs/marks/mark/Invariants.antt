@@ -1,11 +1,8 @@
-use mathlib.Core.Path.{◌≡◌, refl, sym, ap, ◌∙◌}
-use native.Mathlib.Omega.{arith}
-use Prim.Native.Nat.{◌+◌, ◌-◌}
+use mathlib.Core.Path.{◌≡◌}
+use Prim.Native.Nat.{◌-◌}
 use lib.ListN.{length}
 use Rattle.cells.specs.Cells.{list_at}
 use Rattle.copies.specs.Marks.{marks}
-use Rattle.copies.proofs.Walks.{inside}
-use Rattle.copies.proofs.MarkLaws.{marks_stop, marks_next}
 use Rattle.copies.proofs.marks.mark.Given as goal
 
 abbrev pub invariant-loop-a : goal.invariant-loop-a

@@ -1,6 +1,5 @@
 use Rattle.derivations.proofs.LimitLaws.{places_none, places_room, places_values}
 use mathlib.Core.Path.{◌∙◌}
-use native.Mathlib.Omega.{arith}
 use Rattle.derivations.proofs.limits.has_places.Goals as goal
 
 pub returns-then-fits : goal.returns-then-fits

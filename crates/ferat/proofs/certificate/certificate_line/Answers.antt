@@ -1,5 +1,5 @@
-use Rattle.tables.specs.Tables.{Tables, six}
-use Rattle.progress.specs.Shown.{Work, four}
+use Rattle.tables.specs.Tables.{six}
+use Rattle.progress.specs.Shown.{four}
 use Rattle.rules.specs.Forms.{mapping_form, hints_form, clause_form, expansion, addition, deletion}
 use Rattle.ferat.proofs.LineLaws.{means, line_skipped, line_formed}
 use Rattle.ferat.proofs.certificate.certificate_line.Goals as goal

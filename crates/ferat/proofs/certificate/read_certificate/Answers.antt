@@ -1,13 +1,8 @@
-use borrow.Author.Rules.{rules}
 use native.Mathlib.Omega.{arith}
-use mathlib.Core.Path.{◌∙◌}
 use Prim.Native.Nat.{◌-◌}
-use lib.ListN.{length}
-use Rattle.tables.specs.Tables.{tables}
-use Rattle.progress.specs.Shown.{work}
 use mathlib.Core.Path.{ap}
-use Rattle.reading.proofs.ReadLaws.{Midway, midway_start, midway_ends, midway_less, midway_fits, midway_count, midway_next, midway_refused, midway_last}
-use Rattle.progress.specs.Shown.{ferat_rules, ferat_code, answer_of}
+use Rattle.reading.proofs.ReadLaws.{midway_start, midway_ends, midway_less, midway_fits, midway_count, midway_next, midway_refused, midway_last}
+use Rattle.progress.specs.Shown.{answer_of}
 use Rattle.ferat.proofs.CertificateLaws.{ferat_apt, ended_is}
 use Rattle.ferat.proofs.certificate.read_certificate.Goals as goal
 

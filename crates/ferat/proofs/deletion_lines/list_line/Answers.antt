@@ -1,11 +1,8 @@
 use native.Mathlib.Omega.{arith}
 use mathlib.Core.Path.{◌≡◌, refl, sym, ◌∙◌}
 use Prim.Native.Nat.{ℕ, ◌-◌}
-use lib.ListN.{length}
-use Rattle.lists.specs.Lists.{is_list}
 use Rattle.lists.proofs.ListLaws.{on_the_way, is_lost, is_more}
-use Rattle.deletion.specs.Deletions.{Listed}
-use Rattle.ferat.proofs.DeletionLaws.{Partly, listing_start, listing_done, listing_next, line_end, line_more}
+use Rattle.ferat.proofs.DeletionLaws.{listing_start, listing_done, listing_next, line_end, line_more}
 use Rattle.ferat.proofs.deletion_lines.list_line.Goals as goal
 
 pub loop-x-init : goal.loop-x-init

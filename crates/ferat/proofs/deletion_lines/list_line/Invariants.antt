@@ -1,11 +1,9 @@
-use native.Mathlib.Omega.{arith}
-use mathlib.Core.Path.{◌≡◌, refl, sym, ◌∙◌}
-use Prim.Native.Nat.{ℕ, ◌-◌}
+use mathlib.Core.Path.{◌≡◌}
+use Prim.Native.Nat.{◌-◌}
 use lib.ListN.{length}
 use Rattle.lists.specs.Lists.{is_list}
-use Rattle.lists.proofs.ListLaws.{on_the_way, is_lost, is_more}
 use Rattle.deletion.specs.Deletions.{Listed}
-use Rattle.ferat.proofs.DeletionLaws.{Partly, listing_start, listing_done, listing_next, line_end, line_more}
+use Rattle.ferat.proofs.DeletionLaws.{Partly}
 use Rattle.ferat.proofs.deletion_lines.list_line.Given as goal
 
 abbrev pub invariant-loop-x : goal.invariant-loop-x

@@ -1,10 +1,9 @@
-use Rattle.tables.specs.Tables.{Tables, six}
-use Rattle.derivations.specs.Shown.{Work, four, ferp_rules, ferp_code}
+use Rattle.tables.specs.Tables.{six}
+use Rattle.derivations.specs.Shown.{four, ferp_rules, ferp_code}
 use Rattle.ferp_rules.specs.Forms.{derivation_form}
 use Rattle.ferp.specs.Lines.{same_form, judged}
 use Rattle.reading.proofs.LineLaws.{line_skipped, line_judged}
 use Rattle.ferp.proofs.KindLaws.{means}
-use borrow.Author.Rules.{rules}
 use Rattle.ferp.proofs.certificate.certificate_line.Goals as goal
 
 pub returns-in-Skip : goal.returns-in-Skip

@@ -1,11 +1,8 @@
-use borrow.Author.Rules.{rules}
 use native.Mathlib.Omega.{arith}
-use mathlib.Core.Path.{◌≡◌, refl, ap, ◌∙◌}
+use mathlib.Core.Path.{refl, ap, ◌∙◌}
 use Prim.Native.Nat.{◌-◌}
-use lib.ListN.{length}
-use Rattle.tables.specs.Tables.{tables}
-use Rattle.reading.proofs.ReadLaws.{Midway, midway_start, midway_ends, midway_less, midway_fits, midway_count, midway_next, midway_refused, midway_last}
-use Rattle.derivations.specs.Shown.{work, ferp_rules, ferp_code, answer_of}
+use Rattle.reading.proofs.ReadLaws.{midway_start, midway_ends, midway_less, midway_fits, midway_count, midway_next, midway_refused, midway_last}
+use Rattle.derivations.specs.Shown.{answer_of}
 use Rattle.ferp.proofs.CertificateLaws.{ferp_apt, ended_is}
 use Rattle.ferp.proofs.certificate.read_certificate.Goals as goal
 

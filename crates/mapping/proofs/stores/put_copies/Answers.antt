@@ -1,8 +1,7 @@
 use native.Mathlib.Omega.{arith}
 use Prim.Native.Nat.{◌-◌}
-use lib.ListN.{length}
 use Rattle.mapped.proofs.NumberLaws.{item_told}
-use Rattle.mapping.proofs.CopyLaws.{Copying, copying_start, copying_end, copying_short, copying_more}
+use Rattle.mapping.proofs.CopyLaws.{copying_start, copying_end, copying_short, copying_more}
 use Rattle.mapping.proofs.stores.put_copies.Goals as goal
 
 pub loop-n-init : goal.loop-n-init

@@ -1,8 +1,6 @@
-use native.Mathlib.Omega.{arith}
 use Prim.Native.Nat.{◌-◌}
 use lib.ListN.{length}
-use Rattle.mapped.proofs.NumberLaws.{item_told}
-use Rattle.mapping.proofs.CopyLaws.{Copying, copying_start, copying_end, copying_short, copying_more}
+use Rattle.mapping.proofs.CopyLaws.{Copying}
 use Rattle.mapping.proofs.stores.put_copies.Given as goal
 
 abbrev pub invariant-loop-n : goal.invariant-loop-n

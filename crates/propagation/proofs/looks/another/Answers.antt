@@ -1,5 +1,4 @@
 use Rattle.clauses.proofs.CursorLaws.{read_less}
-use Rattle.clauses.specs.Standing.{left}
 use Rattle.propagation.proofs.looks.another.Goals as goal
 
 pub loop-i-init : goal.loop-i-init

@@ -1,4 +1,3 @@
-use Rattle.clauses.proofs.CursorLaws.{read_less}
 use Rattle.clauses.specs.Standing.{left}
 use Rattle.propagation.proofs.looks.another.Given as goal
 

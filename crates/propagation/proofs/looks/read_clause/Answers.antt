@@ -1,8 +1,7 @@
 use mathlib.Core.Path.{◌∙◌, sym}
 use Rattle.clauses.proofs.CursorLaws.{read_end, read_more, read_less}
-use Rattle.clauses.specs.Standing.{literals_from, left}
 use Rattle.rules.proofs.Kit.{not_t, not_f}
-use Rattle.propagation.proofs.MoveLaws.{Looking, looking_start, looking_end, looking_false, looking_first, looking_again, looking_more}
+use Rattle.propagation.proofs.MoveLaws.{looking_start, looking_end, looking_false, looking_first, looking_again, looking_more}
 use Rattle.propagation.proofs.looks.read_clause.Goals as goal
 
 pub loop-i-init : goal.loop-i-init

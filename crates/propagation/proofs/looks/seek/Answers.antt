@@ -1,10 +1,9 @@
-use mathlib.Core.Path.{◌≡◌, ◌∙◌, sym}
+use mathlib.Core.Path.{◌∙◌, sym}
 use native.Mathlib.Omega.{arith}
-use mathlib.Core.Logic.{◌⊎◌, inl, inr}
+use mathlib.Core.Logic.{inl, inr}
 use Rattle.clauses.proofs.CursorLaws.{read_end, read_more, read_less}
-use Rattle.clauses.specs.Standing.{literals_from, left}
 use Rattle.rules.proofs.Kit.{not_t, not_f, either}
-use Rattle.propagation.proofs.MoveLaws.{Looking, looking_start, seeking_end, looking_false, seeking_one, looking_in}
+use Rattle.propagation.proofs.MoveLaws.{looking_start, seeking_end, looking_false, seeking_one, looking_in}
 use Rattle.propagation.proofs.looks.seek.Goals as goal
 
 pub loop-i-init : goal.loop-i-init

@@ -1,10 +1,7 @@
-use mathlib.Core.Path.{◌≡◌, ◌∙◌, sym}
-use native.Mathlib.Omega.{arith}
-use mathlib.Core.Logic.{◌⊎◌, inl, inr}
-use Rattle.clauses.proofs.CursorLaws.{read_end, read_more, read_less}
+use mathlib.Core.Path.{◌≡◌}
+use mathlib.Core.Logic.{◌⊎◌}
 use Rattle.clauses.specs.Standing.{literals_from, left}
-use Rattle.rules.proofs.Kit.{not_t, not_f, either}
-use Rattle.propagation.proofs.MoveLaws.{Looking, looking_start, seeking_end, looking_false, seeking_one, looking_in}
+use Rattle.propagation.proofs.MoveLaws.{Looking}
 use Rattle.propagation.proofs.looks.seek.Given as goal
 
 abbrev pub invariant-loop-i : goal.invariant-loop-i
