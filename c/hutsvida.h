@@ -1,6 +1,6 @@
 /* Hutsvida: a proved checker of FERAT and FERP certificates, for callers in C and C++.
  *
- * `rt staticlib ferat_c` proves the library and writes target/staticlib/libferat_c.a (x86-64 Linux). The promises are in
+ * `command/proved ferat_c` proves the library and writes target/staticlib/libferat_c.a (x86-64 Linux). The promises are in
  * crates/ferat_c, crates/tables/specs/Checked.antt and crates/checks/specs (Runs.antt, All.antt).
  *
  * Every call takes all inputs, ends, and writes only to what it is lent for writing. What is lent for writing overlaps nothing

@@ -1,4 +1,4 @@
-// Links the static library that `rt staticlib ferat_c` writes, and hands on the name of the sources (command/build).
+// Links the static library that `command/proved ferat_c` writes, and hands on the name of the sources (command/build).
 fn main() {
     let root = std::env::var("CARGO_MANIFEST_DIR").unwrap();
     let folder = format!("{root}/../target/staticlib");

@@ -1,4 +1,4 @@
-// Links the static library that `rt staticlib lines_c` writes, from this checkout or from the folder that LIBRARY names.
+// Links the static library that `command/proved lines_c` writes, from this checkout or from the folder that LIBRARY names.
 fn main() {
     let root = std::env::var("CARGO_MANIFEST_DIR").unwrap();
     let folder = std::env::var("LIBRARY").unwrap_or(format!("{root}/../../target/staticlib"));

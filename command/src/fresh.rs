@@ -1,8 +1,8 @@
 //! `fresh ROOT STAMP`: whether the sources are those that the stamp names.
 //! The stamp (command/build) has a line for each file and folder of sources
 //! under ROOT: size, time of the last change, name. A file that was changed,
-//! put there or taken away changes its line or its folder's. Exit status: 0
-//! they are, 1 they are not.
+//! put there or taken away changes its line or its folder's. What is not there
+//! has `- - name`. Exit status: 0 they are, 1 they are not.
 
 use std::os::unix::fs::MetadataExt;
 use std::process::ExitCode;
@@ -11,7 +11,11 @@ use std::process::ExitCode;
 fn same(line: &str) -> bool {
     let mut words = line.splitn(3, ' ');
     let (Some(size), Some(time), Some(name)) = (words.next(), words.next(), words.next()) else { return false };
-    let Ok(found) = std::fs::symlink_metadata(name) else { return false };
+    let found = std::fs::symlink_metadata(name);
+    if size == "-" {
+        return found.is_err();
+    }
+    let Ok(found) = found else { return false };
     found.len().to_string() == size && format!("{}.{:09}0", found.mtime(), found.mtime_nsec()) == time
 }
 

@@ -1,4 +1,4 @@
-// Links the static library that `rt staticlib formula_c` writes.
+// Links the static library that `command/proved formula_c` writes.
 fn main() {
     let root = std::env::var("CARGO_MANIFEST_DIR").unwrap();
     let folder = format!("{root}/../../target/staticlib");

@@ -1,4 +1,5 @@
-"""When ./hutsvida builds: a copy of the checkout with two of its crates, and with `rt` and `cargo` that only write down that they were called."""
+"""When ./hutsvida builds: a copy of the checkout with three of its crates, and with `rt` and `cargo` that only write down that they were called.
+`rt` also makes folders out, as it does in each crate that it proves, and the library there."""
 import os
 import shutil
 import subprocess
@@ -8,9 +9,11 @@ from common import ROOT, Case
 
 RT = '''#!/bin/sh
 echo "rt $*" >>"$CALLS"
-echo "rt: lines proved (0 s)"
+echo "rt: chose --jobs 2 for lines"
 echo "rt: something else"
+mkdir -p out ../lines/out
 [ ! -e "$CALLS.broken" ] || { echo "a proof that fails"; exit 1; }
+echo >out/libferat_c.a
 '''
 CARGO = '''#!/bin/sh
 echo "cargo $HUTSVIDA_SOURCES" >>"$CALLS"
@@ -23,8 +26,8 @@ class Built(Case):
         super().setUp()
         self.copy = os.path.join(self.folder, "a copy")
         os.makedirs(os.path.join(self.copy, "target/command/release"))
-        for name in ["crates/lines", "crates/rules", "command"]:
-            shutil.copytree(os.path.join(ROOT, name), os.path.join(self.copy, name))
+        for name in ["crates/lines", "crates/rules", "crates/ferat_c", "command"]:
+            shutil.copytree(os.path.join(ROOT, name), os.path.join(self.copy, name), ignore=shutil.ignore_patterns("out"))
         for name in ["hutsvida", "crates.txt", "target/command/release/hutsvida", "target/command/release/fresh"]:
             shutil.copy2(os.path.join(ROOT, name), os.path.join(self.copy, name))
         tools = os.path.join(self.folder, "tools")
@@ -49,10 +52,10 @@ class Built(Case):
     def assert_builds(self):
         """It builds, says so with the name of the log, and does not build again."""
         status, out, err, calls = self.hutsvida("version")
-        self.assertEqual((status, calls), (0, ["rt", "rt", "cargo"]), err)
+        self.assertEqual((status, calls), (0, ["rt", "cargo"]), err)
         self.assertTrue(out.startswith("hutsvida "))
         self.assertIn(os.path.join(self.copy, "target/command.log"), err)
-        self.assertIn("hutsvida: lines proved (0 s)\n", err)
+        self.assertIn("hutsvida: proving lines\n", err)
         self.assertNotIn("something else", err)
         self.assertEqual(self.hutsvida("version"), (0, out, "", []))
 
@@ -74,10 +77,26 @@ class Built(Case):
         self.assert_builds()
         os.remove(added)
         self.assert_builds()
+        # a part that goes, and one that comes
+        part = os.path.join(self.copy, "crates/rules/proofs")
+        os.rename(part, os.path.join(self.folder, "proofs"))
+        self.assert_builds()
+        os.rename(os.path.join(self.folder, "proofs"), part)
+        self.assert_builds()
         os.utime(os.path.join(self.copy, "crates.txt"))
         self.assert_builds()
         shutil.rmtree(os.path.join(self.copy, "target/command"))
-        self.assertEqual(self.hutsvida("version")[3], ["rt", "rt", "cargo"])
+        self.assertEqual(self.hutsvida("version")[3], ["rt", "cargo"])
+
+    def test_what_rt_writes_is_no_change(self):
+        """Folders crates/*/out come, change and go; the library is where README says."""
+        self.assert_builds()
+        self.assertTrue(os.path.exists(os.path.join(self.copy, "target/staticlib/libferat_c.a")))
+        os.makedirs(os.path.join(self.copy, "crates/rules/out/incremental"))
+        with open(os.path.join(self.copy, "crates/lines/out/more"), "w", encoding="utf-8"):
+            pass
+        shutil.rmtree(os.path.join(self.copy, "crates/ferat_c/out"))
+        self.assertEqual(self.hutsvida("version")[3], [])
 
     def test_a_failed_build(self):
         """Status 2, the log's end and its name; and it is tried again."""
@@ -96,7 +115,7 @@ class Built(Case):
         running = [subprocess.Popen([program, "version"], **silent, **self.more) for _ in range(4)]
         self.assertEqual([process.wait() for process in running], [0] * 4)
         with open(self.calls, encoding="utf-8") as file:
-            self.assertEqual(len(file.readlines()), 3)
+            self.assertEqual(len(file.readlines()), 2)
 
     def test_help_before_any_build(self):
         for words, status in [(["help"], 0), (["--help"], 0), (["help", "ferat"], 0), (["help", "ferp"], 0), ([], 2)]:

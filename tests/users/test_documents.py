@@ -24,9 +24,11 @@ def blocks(text):
 
 
 def files_of_checkout():
-    found = []
+    """All but what builds make: target, and the folders crates/*/out of rt."""
+    found, crates = [], os.path.join(ROOT, "crates")
     for folder, folders, names in os.walk(ROOT):
-        folders[:] = [name for name in folders if os.path.join(folder, name) not in (os.path.join(ROOT, "target"), os.path.join(ROOT, ".git"))]
+        made = ["target", ".git"] if folder == ROOT else ["out"] if os.path.dirname(folder) == crates else []
+        folders[:] = [name for name in folders if name not in made]
         found += [os.path.join(folder, name) for name in names]
     return sorted(found)
 
