@@ -1,30 +1,49 @@
 // The program: loads the two files of the working folder, checks them and writes the verdict's line.
 #![tactic(auto)]
 
-ghost use Rattle.std.specs.Prelude.{◌≡◌, ◌≤◌, length, take};
+ghost use Rattle.std.specs.Io.KnownBytes.{Consumes};
+ghost use Rattle.std.specs.Prelude.{◌≡◌, ◌≤◌, length, take, IfSome, OnOk};
 ghost use Rattle.tables.specs.Tables.{six};
-ghost use Rattle.verdict.specs.Program.{ReportedIn, Printed};
+ghost use Rattle.verdict.specs.Program.{ReportedIn, Loaded, Printed};
 
-use libc::STDOUT_FILENO;
 use reading::refused_early;
 use rules::Report;
+use std::io::Read;
+use std::rt::Files;
+use std::{fs, io};
 
 // The program holds so many bytes of each file.
 const FORMULA: usize = 16384;
 
 const CERTIFICATE: usize = 65536;
 
-// Reads a file from its start and answers how many bytes; one that does not open, or cannot be read, is empty.
-fn load(path: &[u8], bytes: &mut [u8]) -> usize
+// Reads a file from its start and answers how many bytes; one that does not open, or cannot be read, is empty. Where a read fails part way,
+// the bytes read so far count.
+fn load(files: &impl Files, path: &str, bytes: &mut [u8]) -> usize
     ensures { result ≤ length bytes.new }
 {
-    let fd = os::open_read(path);
-    if fd < 0 {
+    let Ok(mut file) = fs::open(files, path) else {
         return 0;
+    };
+    let (count, _) = read_full(&mut file, bytes);
+    count
+}
+
+// Reads until the bytes are full, the reader ends or a read fails, and answers how many bytes it put at their start, and the failure.
+fn read_full<R: Read>(reader: &mut R, bytes: &mut [u8]) -> (usize, io::Result<()>)
+    ensures fits { result.0 ≤ length bytes.new }
+    ensures read { Consumes (R.remaining reader.old) (R.remaining reader.new) (take result.0 bytes.new) }
+    ensures loaded { OnOk result.1 (IfSome (R.remaining reader.old) (Loaded bytes.new result.0)) }
+{
+    let mut done = 0;
+    while done < bytes.len() {
+        match reader.read(&mut bytes[done..]) {
+            Ok(0) => return (done, Ok(())),
+            Ok(n) => done += n,
+            Err(e) => return (done, Err(e)),
+        }
     }
-    let n = io::read_full(fd, bytes);
-    libc::close(fd);
-    n
+    (done, Ok(()))
 }
 
 // The report of two files under the program's limits.
@@ -104,7 +123,7 @@ fn verdict_line(
     report::render_report(r, out)
 }
 
-fn main() {
+fn main(rt: HostRuntime) -> io::Result<()> {
     let mut formula = [0; 16385];
     let mut certificate = [0; 65537];
     let mut prefix = [0; 16384];
@@ -114,8 +133,8 @@ fn main() {
     let mut marks = [0; 16384];
     let mut values = [0; 16384];
     let mut line = [0; 96];
-    let f = load(b"formula.qdimacs", &mut formula);
-    let c = load(b"proof.ferat", &mut certificate);
+    let f = load(&rt, "formula.qdimacs", &mut formula);
+    let c = load(&rt, "proof.ferat", &mut certificate);
     let n = verdict_line(
         &formula,
         f,
@@ -129,5 +148,5 @@ fn main() {
         &mut values,
         &mut line,
     );
-    io::write_all(STDOUT_FILENO, &line[0..n]);
+    rt.write_all(&line[0..n])
 }
