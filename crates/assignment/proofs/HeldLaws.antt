@@ -14,7 +14,7 @@ use Rattle.rules.specs.Basics.{is_in, distinct}
 use Rattle.rules.proofs.Kit.{clear, and_l, and_r, either, In}
 use Rattle.rules.proofs.Distinct.{in_is_in, is_in_in, distinct_cons}
 use Rattle.copies.specs.Marks.{Unmarked}
-use Rattle.copies.proofs.MarkLaws.{get_d_zeros}
+use Rattle.copies.proofs.MarkLaws.{get_or_zeros}
 use Rattle.assignment.specs.Held.{listed, is_new, adding, joined, zeros, Held, Holds, Noted}
 
 -- THE LIST IN AN ARRAY
@@ -288,7 +288,7 @@ module _ (s h : List ℕ) (i : ℕ) (left : Left s h i) where
 -- NOTES
 pub noted_none : (size : ℕ → ℕ) (n : ℕ) → Noted size (replicate n 0)
 unfolding Noted
-noted_none size n e h = absurd (h (get_d_zeros n e))
+noted_none size n e h = absurd (h (get_or_zeros n e))
 
 module _ (size : ℕ → ℕ) (memo : List ℕ) (n : Noted size memo) (e : ℕ) where
   pub noted_read : {k : ℕ} → k ≡ get_or memo e 0 → (k ≡ 0 → ⊥) → k - 1 ≡ size e

@@ -49,17 +49,17 @@ module _ (t : List ℤ) (i : ℕ) (s : List ℕ) {r : ℕ} (e : r ≡ code_at t 
   unfolding marks
   marks_next h = ap (λ l. marks l s) (more t i e h)
 
-pub get_d_zeros : (n y : ℕ) → get_or {A = ℕ} (replicate n 0) y 0 ≡ 0
-get_d_zeros zero y = refl
-get_d_zeros (suc n) zero = refl
-get_d_zeros (suc n) (suc y) = get_d_zeros n y
+pub get_or_zeros : (n y : ℕ) → get_or {A = ℕ} (replicate n 0) y 0 ≡ 0
+get_or_zeros zero y = refl
+get_or_zeros (suc n) zero = refl
+get_or_zeros (suc n) (suc y) = get_or_zeros n y
 
 -- an array of zeros has no mark
 pub zeros_long : 8194 ≤ length (replicate {A = ℕ} 8194 0)
 zeros_long = omega (arith, length-replicate {A = ℕ} 8194 0)
 
 pub zeros_unmarked : Unmarked (replicate 8194 0)
-zeros_unmarked = record { long = zeros_long; none = get_d_zeros 8194 }
+zeros_unmarked = record { long = zeros_long; none = get_or_zeros 8194 }
 
 pub unmarked_marking : (ys s : List ℕ) → Unmarked s → (t : List ℕ) → t ≡ marks ys s → Marking t ys
 unfolding Marking

@@ -296,24 +296,24 @@ module _ (prefix values maps proof matrix : List ℤ) (l c n : ℕ) (f : Formula
       subst (In (code_of y)) (sym least_code)
       (joined_has [] (map code_of least) (Memᴰ.map code_of i) (code_low y n (least_ranged y i) shown.low))
 
-  T-in : (k : ℕ) → In k T → (y : Lit) × In y least × (code_of y ≡ k)
-  T-in k i =
+  t_in : (k : ℕ) → In k T → (y : Lit) × In y least × (code_of y ≡ k)
+  t_in k i =
       Memᴰ.of_map code_of least
       (either (λ j. absurd (Memᴰ.not-nil j)) (λ j. j) (joined_from [] (map code_of least) (subst (In k) least_code i)))
 
   same_lit : (x y : Lit) → code_of x ≡ code_of y → x ≡ y
   same_lit x y e = sym (lit_code x) ∙ ap lit_of e ∙ lit_code y
 
-  T-holds : (y : Lit) → is_in T (code_of y) ≡ holds least y
-  T-holds y =
+  t_holds : (y : Lit) → is_in T (code_of y) ≡ holds least y
+  t_holds y =
       same_test (is_in T (code_of y)) (holds least y)
-      (λ h. let s = T-in (code_of y) (is_in_in T (code_of y) h) in in_holds least y (Memᴰ.cast (sym (same_lit s.0 y s.2)) s.1))
+      (λ h. let s = t_in (code_of y) (is_in_in T (code_of y) h) in in_holds least y (Memᴰ.cast (sym (same_lit s.0 y s.2)) s.1))
       (λ h. in_is_in T (code_of y) (in_t y (holds_in least y h)))
 
   -- both signs
   alone_code : (y : Lit) → alone T (code_of y) ≡ not (holds least (negate y))
   unfolding alone
-  alone_code y = ap not (ap (is_in T) (sym (code_negate y)) ∙ T-holds (negate y))
+  alone_code y = ap not (ap (is_in T) (sym (code_negate y)) ∙ t_holds (negate y))
 
   apart_code : apart T ≡ not (both_signs least)
   unfolding apart
@@ -321,7 +321,7 @@ module _ (prefix values maps proof matrix : List ℤ) (l c n : ℕ) (f : Formula
       (λ h. not_of_f (by_yes (both_signs least) λ e. let s = signs_in least e in
       clear (in_holds least (negate s.0) s.2)
       (not_t (holds least (negate s.0)) (sym (alone_code s.0) ∙ all_in (alone T) h (in_t s.0 s.1)))))
-      (λ h. in_all_lem (alone T) T λ k i. let s = T-in k i in
+      (λ h. in_all_lem (alone T) T λ k i. let s = t_in k i in
       sym (ap (alone T) s.2) ∙ alone_code s.0
       ∙ not_of_f (by_yes (holds least (negate s.0)) λ e. clear (in_signs least s.0 s.1 (holds_in least (negate s.0) e)) (not_t (both_signs least) h)))
 
@@ -366,7 +366,7 @@ module _ (prefix values maps proof matrix : List ℤ) (l c n : ℕ) (f : Formula
         (in_all_lem (holds (ann p)) mine λ y i. in_holds (ann p) y (code_in (ann p) y (all_in (is_in A) h (part_in y i)))))
         (λ h. in_all_lem (is_in A) (keep dependent T) λ k i.
         let q = in_keep dependent k T i in
-        let s = T-in k q.0 in
+        let s = t_in k q.0 in
         let d = sym (depends_code s.0 s.1) ∙ ap dependent s.2 ∙ q.1 in
         sym (ap (is_in A) s.2) ∙ in_code (ann p) s.0 (holds_in (ann p) s.0
         (all_in (holds (ann p)) (and_r (within (ann p) mine) (within mine (ann p)) h) (keep_in (λ l. depends_on f (sf p) (var l)) s.1 d))))

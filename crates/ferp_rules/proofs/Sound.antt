@@ -27,7 +27,7 @@ use Rattle.rules.proofs.Strategy.{Strategy}
 use Rattle.rules.proofs.Steps.{unless_none, then_none, refuse_next, lines_keep, bytes_next}
 use Rattle.rules.proofs.Reading.{Formed}
 use Rattle.rules.proofs.ExpansionSound.{copy_value, expands_true}
-use Rattle.rules.proofs.Sound.{get_d_in}
+use Rattle.rules.proofs.Sound.{get_or_in}
 use Rattle.ferp_rules.specs.Forms.{FerpLine, mapping, expansion, resolution, ferp_line}
 use Rattle.ferp_rules.specs.Resolvent.{derives}
 use Rattle.ferp_rules.specs.Lines.{Derived, start, clause_of, parent, needing, in_sequence, in_range, kind_rules, accept, certificate_end, judge, read_ferp}
@@ -111,7 +111,7 @@ module _ (limits : Limits) (f : Formula) (formed : Formed f) (S : Strategy f) wh
         let z = eqb-false n 0 positive in
         let m = leb-true n f.count range in
         let less : n - 1 < length f.matrix = below n z m in
-        expands_true f S s.state.mapped formed.once c (clause_number f n) (get_d_in f.matrix (n - 1) [] less)
+        expands_true f S s.state.mapped formed.once c (clause_number f n) (get_or_in f.matrix (n - 1) [] less)
         (unless_none 11 (expands f s.state.mapped c (clause_number f n)) p.1)
       where
         below : (n : ℕ) → (n ≡ 0 → ⊥) → n ≤ f.count → n - 1 < length f.matrix

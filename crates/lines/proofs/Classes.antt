@@ -188,3 +188,19 @@ module _ (k : Class) (b : ℕ) where
 
   pub held_not : (Holds k b → ⊥) → is_a k b ≡ false
   held_not = untrue (Holds k b) (is_a k b) is_held
+
+-- a byte that no test found
+pub class_other : (b : ℕ) → (Blanks b → ⊥) → (b ≡ 10 → ⊥) → (b ≡ 45 → ⊥) → (From 48 57 b → ⊥) → (From 65 90 b → ⊥) → (From 97 122 b → ⊥) → class_of b ≡ Other
+class_other b blank end minus digit upper lower = class_is Other b (blank, end, digit, minus, letter)
+  where
+    letter : Holds Letter b → ⊥
+    letter (inl h) = upper h
+    letter (inr h) = lower h
+
+-- the digits by their range
+pub digit_range : (b : ℕ) → leb 48 b && leb b 57 ≡ is_a Digit b
+digit_range b = go (leb 48 b && leb b 57) refl
+  where
+    go : (t : Bool) → leb 48 b && leb b 57 ≡ t → t ≡ is_a Digit b
+    go true e = sym (held_is Digit b (from_true 48 57 b e))
+    go false e = sym (held_not Digit b (never (From 48 57 b) (leb 48 b && leb b 57) (true_from 48 57 b) e))

@@ -3,6 +3,10 @@ use mathlib.Core.Path.{◌≡◌, refl, ap, ap₂, sym, ◌∙◌}
 use mathlib.Core.Bool.{Bool, true, false, not, cond, ◌||◌, true≢false}
 use mathlib.Core.List.{List, [], ◌∷◌}
 use mathlib.Core.Logic.{◌⊎◌, inl, inr}
+use lib.Dec.{eqb}
+use borrow.Author.Tests.{eqb-false}
+use Rattle.lines.specs.declared.Class.TheVariants.{LineEnd}
+use Rattle.lines.proofs.Classes.{held_not}
 use Prim.Native.Nat.{ℕ, zero, suc, ◌+◌, ◌-◌, ◌<◌, ◌≤◌}
 use native.Mathlib.Omega.{arith}
 use lib.ListN.{length, take, drop, get_or, length-drop}
@@ -212,3 +216,21 @@ module _ (bs : List ℕ) (at : ℕ) where
         let w = words_run (get_or bs s 0) (drop (s + 1) bs) in
         ap words_of e ∙ words_text (get_or bs s 0) (drop (s + 1) bs) b ∙ w
         ∙ ap₂ (λ x y. x ∷ words_of y) (sym (ap₂ take r e)) (drop-drop (run (passes Word) (drop (s + 1) bs)) (s + 1) bs ∙ ap (λ n. drop n bs) q)
+
+-- a block of bytes, none of which is byte 10
+module _ (bs : List ℕ) (i : ℕ) where
+  -- whether one of n + 1 bytes is byte 10
+  abbrev ends_within : ℕ → Bool
+  ends_within zero = eqb (get_or bs i 0) 10
+  ends_within (suc n) = ends_within n || eqb (get_or bs (i + suc n) 0) 10
+
+  byte_passed : (j : ℕ) → j < length bs → eqb (get_or bs j 0) 10 ≡ false → run (passes Line) (drop j bs) ≡ suc (run (passes Line) (drop (j + 1) bs))
+  byte_passed j h e = run_go (passes Line) bs j h (ap not (held_not LineEnd (get_or bs j 0) (eqb-false (get_or bs j 0) 10 e)))
+
+  pub block_passed : (n : ℕ) → i + suc n ≤ length bs → ends_within n ≡ false → run (passes Line) (drop i bs) ≡ suc n + run (passes Line) (drop (i + suc n) bs)
+  block_passed zero h e = byte_passed i (omega arith) e ∙ omega arith
+  block_passed (suc n) h e =
+      let k = or_false (ends_within n) (eqb (get_or bs (i + suc n) 0) 10) e in
+      let p : i + suc n + 1 ≡ i + suc (suc n) = omega arith in
+      let r = byte_passed (i + suc n) (omega arith) k.1 ∙ ap (λ m. suc (run (passes Line) (drop m bs))) p in
+      block_passed n (omega arith) k.0 ∙ ap (λ m. suc n + m) r ∙ omega arith

@@ -14,7 +14,7 @@ use Rattle.lines.specs.declared.Run.TheVariants.{Word}
 use Rattle.lines.specs.declared.Digits.{Digits}
 use Rattle.lines.specs.declared.Plain.{Plain}
 use Rattle.lines.specs.declared.Literal.{Literal}
-use Rattle.lines.specs.Scan.{cap, passes, run, digits_in, number_in, literal_at}
+use Rattle.lines.specs.Scan.{cap, passes, run, digits_in, number_in, start_at, literal_at}
 use Rattle.lines.proofs.Here.{here}
 use Rattle.lines.proofs.Classes.{and_true, held_not}
 use Rattle.lines.proofs.Runs.{run_past, run_stop, run_go, starts}
@@ -29,12 +29,12 @@ digit_passes : (b : ℕ) → is_digit b ≡ true → passes Word b ≡ true
 digit_passes b e = ap (λ n. not (eqb n 0)) (eqb-true (rank (class_of b)) 2 e)
 
 -- the word from a place on is the number v, and e is the place after it
-abbrev pub Number-at : List ℕ → ℕ → ℕ → ℕ → Type 0
-Number-at bs from v e = (e ≡ from + run (passes Word) (drop from bs)) × (digits_in (take (e - from) (drop from bs)) ≡ Digits.Value v)
+abbrev pub NumberAt : List ℕ → ℕ → ℕ → ℕ → Type 0
+NumberAt bs from v e = (e ≡ from + run (passes Word) (drop from bs)) × (digits_in (take (e - from) (drop from bs)) ≡ Digits.Value v)
 
 -- what the reader of a number tells
 abbrev pub Tells : List ℕ → ℕ → Plain → Type 0
-Tells bs from r = (v e : ℕ) → r ≡ Plain.Of v e → Number-at bs from v e
+Tells bs from r = (v e : ℕ) → r ≡ Plain.Of v e → NumberAt bs from v e
 
 pub tells_nothing : (bs : List ℕ) (from : ℕ) → Tells bs from Plain.Unread
 tells_nothing bs from v e q = absurd (let z : ◌≡◌ {A = ℕ} 0 1 = cc in omega arith)
@@ -133,19 +133,24 @@ module _ (bs : List ℕ) where
     walk_past {v} {i} k h = walk_ends k (run_past (passes Word) bs i h)
 
   -- a number is no empty word
-  number_long : (from : ℕ) {v e : ℕ} → Number-at bs from v e → run (passes Word) (drop from bs) ≡ 0 → ⊥
+  number_long : (from : ℕ) {v e : ℕ} → NumberAt bs from v e → run (passes Word) (drop from bs) ≡ 0 → ⊥
   unfolding digits_in
   number_long from {v} {e} k z =
       let x : e - from ≡ 0 = omega (arith, k.0) in
       let q : Digits.Bad ≡ Digits.Value v = sym (ap (λ n. digits_in (take n (drop from bs))) x) ∙ k.1 in
       let z : ◌≡◌ {A = ℕ} 0 1 = cc in omega arith
 
-  number_within : (from : ℕ) {v e : ℕ} → Number-at bs from v e → from < length bs
+  number_within : (from : ℕ) {v e : ℕ} → NumberAt bs from v e → from < length bs
   number_within from {v} {e} k = go (leb (length bs) from) refl
     where
       go : (t : Bool) → leb (length bs) from ≡ t → from < length bs
       go true l = absurd (number_long from k (run_past (passes Word) bs from (leb-true (length bs) from l)))
       go false l = leb-false (length bs) from l
+
+  -- a blank is skipped
+  pub blank_skipped : (at : ℕ) → at < length bs → is_blank (get_or bs at 0) ≡ true → start_at bs (at + 1) ≡ start_at bs at
+  unfolding start_at
+  blank_skipped at h e = omega (arith, run_go is_blank bs at h e)
 
   -- past the end there is no minus
   pub no_minus : (s : ℕ) → length bs ≤ s → ◌≡◌ {A = ℕ} 0 (cond (is_minus (get_or bs s 0)) 1 0)
@@ -166,7 +171,7 @@ module _ (bs : List ℕ) where
         go false h = omega (arith, leb-false (length bs) s h, small (is_minus (get_or bs s 0)) m)
 
     -- its code fits
-    pub code_fits : {v e : ℕ} → Number-at bs (s + g) v e → 2 * v + g ≤ 2 * cap + 1
+    pub code_fits : {v e : ℕ} → NumberAt bs (s + g) v e → 2 * v + g ≤ 2 * cap + 1
     code_fits {v} {e} k = go (is_minus (get_or bs s 0)) m
       where
         low : v ≤ cap
@@ -176,15 +181,26 @@ module _ (bs : List ℕ) where
         go true q = omega (arith, low)
         go false q = omega (arith, low)
 
+    -- it does start at s
+    here_starts : {v e : ℕ} → NumberAt bs (s + g) v e → (s < length bs) × (is_blank (get_or bs s 0) ≡ false)
+    here_starts {v} {e} k = (omega (arith, number_within (s + g) k), go (is_minus (get_or bs s 0)) refl m)
+      where
+        go : (t : Bool) → is_minus (get_or bs s 0) ≡ t → g ≡ cond t 1 0 → is_blank (get_or bs s 0) ≡ false
+        go true q m = ap (λ n. eqb n 0) (eqb-true (rank (class_of (get_or bs s 0))) 3 q)
+        go false q m =
+            let p : s + g ≡ s = omega arith in
+            let n : NumberAt bs s v e = rw p at k in
+            ends_at s (number_within s n) ∙ ne_eqb (run (passes Word) (drop s bs)) 0 (number_long s n)
+
   -- the next token, s is its start and g its sign
   module _ (at : ℕ) {s : ℕ} (h : s ≡ at + run is_blank (drop at bs)) (l : s < length bs) where
-    literal_walked : {g v e : ℕ} → g ≡ cond (is_minus (get_or bs s 0)) 1 0 → Number-at bs (s + g) v e → g ≤ v → Literal.Of (2 * v + g) e ≡ literal_at bs at
+    literal_walked : {g v e : ℕ} → g ≡ cond (is_minus (get_or bs s 0)) 1 0 → NumberAt bs (s + g) v e → g ≤ v → Literal.Of (2 * v + g) e ≡ literal_at bs at
     literal_walked {g} {v} {e} m k z = go (is_minus (get_or bs s 0)) refl m
       where
         go : (t : Bool) → is_minus (get_or bs s 0) ≡ t → g ≡ cond t 1 0 → Literal.Of (2 * v + g) e ≡ literal_at bs at
         go true q m =
             let p : s + g ≡ s + 1 = omega arith in
-            let n : Number-at bs (s + 1) v e = rw p at k in
+            let n : NumberAt bs (s + 1) v e = rw p at k in
             let r = run_go (passes Word) bs s l (ap not (starts bs at h l)) in
             let u : e ≡ s + run (passes Word) (drop s bs) = omega (arith, n.0) in
             let x : e - s ≡ suc (e - (s + 1)) = omega (arith, n.0) in
@@ -193,12 +209,19 @@ module _ (bs : List ℕ) where
             ∙ literal_read bs at h u (number_signed (get_or bs s 0) (take (e - (s + 1)) (drop (s + 1) bs)) q n.1 (λ y. omega arith) ∙ sym (ap number_in w)) refl
         go false q m =
             let p : s + g ≡ s = omega arith in
-            let n : Number-at bs s v e = rw p at k in
+            let n : NumberAt bs s v e = rw p at k in
             let x : 2 * v + g ≡ 2 * v = omega arith in
             ap (λ i. Literal.Of i e) x ∙ literal_read bs at h n.0 (number_digits (take (e - s) (drop s bs)) refl n.1) refl
 
-  pub plain_walked : (at : ℕ) {s g v e : ℕ} → s ≡ at + run is_blank (drop at bs) → g ≡ cond (is_minus (get_or bs s 0)) 1 0 → Number-at bs (s + g) v e → g ≤ v → Says bs at (Plain.Of (2 * v + g) e)
-  plain_walked at {s} {g} {v} {e} h m k z x y q =
+  pub plain_walked_from : (at : ℕ) {s g v e : ℕ} → s ≡ at + run is_blank (drop at bs) → g ≡ cond (is_minus (get_or bs s 0)) 1 0 → NumberAt bs (s + g) v e → g ≤ v → Says bs at (Plain.Of (2 * v + g) e)
+  plain_walked_from at {s} {g} {v} {e} h m k z x y q =
       let c : 2 * v + g ≡ x = cc in
       let d : e ≡ y = cc in
       sym (literal_walked at h (omega (arith, number_within (s + g) k)) m k z) ∙ ap₂ Literal.Of c d
+
+  pub plain_walked : (at s : ℕ) {g v e : ℕ} → start_at bs s ≡ start_at bs at → g ≡ cond (is_minus (get_or bs s 0)) 1 0 → NumberAt bs (s + g) v e → g ≤ v → Says bs at (Plain.Of (2 * v + g) e)
+  unfolding start_at
+  plain_walked at s {g} {v} {e} a m k =
+      let b = here_starts s m k in
+      let h : s ≡ at + run is_blank (drop at bs) = omega (arith, run_stop is_blank bs s b.0 b.1) in
+      plain_walked_from at h m k

@@ -30,10 +30,10 @@ use Rattle.rules.proofs.HintsForm.{HintsPositive, LineRead, certificate_read}
 use Rattle.rules.proofs.ExpansionSound.{copy_value, expands_true}
 use Rattle.rules.proofs.Judged.{Judged, judged}
 
-pub get_d_in : {A : Type 0} (xs : List A) (i : ℕ) (d : A) → i < length xs → In (get_or xs i d) xs
-get_d_in [] i d h = absurd (omega arith)
-get_d_in (x ∷ xs) zero d h = Memᴰ.head refl
-get_d_in (x ∷ xs) (suc i) d h = Memᴰ.tail (get_d_in xs i d (omega arith))
+pub get_or_in : {A : Type 0} (xs : List A) (i : ℕ) (d : A) → i < length xs → In (get_or xs i d) xs
+get_or_in [] i d h = absurd (omega arith)
+get_or_in (x ∷ xs) zero d h = Memᴰ.head refl
+get_or_in (x ∷ xs) (suc i) d h = Memᴰ.tail (get_or_in xs i d (omega arith))
 
 module _ (f : Formula) where
   -- each hint names a clause of the matrix
@@ -51,9 +51,9 @@ module _ (f : Formula) where
       go none h t c i = i
       go (some ns) h t c i =
           let n = get_or ns s.expansions 0 in
-          let b = h n (get_d_in ns s.expansions 0 (ltb-true s.expansions (length ns) t)) in
+          let b = h n (get_or_in ns s.expansions 0 (ltb-true s.expansions (length ns) t)) in
           let less : n - 1 < length f.matrix = omega (arith, b.0, b.1, e) in
-          Memᴰ.cast (Memᴰ.eq_of_singleton i) (get_d_in f.matrix (n - 1) [] less)
+          Memᴰ.cast (Memᴰ.eq_of_singleton i) (get_or_in f.matrix (n - 1) [] less)
 
 -- What holds after each line. While nothing was added or deleted, the copies' own values satisfy the standing clauses; from then on
 -- some valuation does.

@@ -1,5 +1,5 @@
 use native.Mathlib.Omega.{arith}
-use Rattle.lines.proofs.Walks.{sign_fits, code_fits, plain_walked, says_nothing}
+use Rattle.lines.proofs.Walks.{sign_fits, code_fits, plain_walked_from, says_nothing}
 use Rattle.lines.proofs.plain_at.Goals as goal
 
 pub overflow_add-s : goal.overflow_add-s
@@ -12,7 +12,7 @@ pub overflow_add-result : goal.overflow_add-result
 overflow_add-result c = let h = code_fits _ c.past-s.result c.minus_at-sign.ensures (c.unsigned_at.ensures _ _ c.in-Of.is) in omega arith
 
 pub returns-then-sign-v : goal.returns-then-sign-v
-returns-then-sign-v c = plain_walked _ _ c.past-s.ensures c.minus_at-sign.ensures (c.unsigned_at.ensures _ _ c.in-Of.is) c.if-sign-v.true
+returns-then-sign-v c = plain_walked_from _ _ c.past-s.ensures c.minus_at-sign.ensures (c.unsigned_at.ensures _ _ c.in-Of.is) c.if-sign-v.true
 
 pub returns-else-sign-v : goal.returns-else-sign-v
 returns-else-sign-v c = says_nothing _ _
