@@ -1,29 +1,32 @@
 -- Rule 8 over the prefix table is rule 8 of the rules. Assumes nothing.
-use mathlib.Core.Path.{◌≡◌, refl, ap, ap₂, sym, ◌∙◌, subst}
-use mathlib.Core.Bool.{Bool, true, false, cond, ◌&&◌, and-true}
+use mathlib.Core.Path.{◌≡◌, refl, ap, ap₂, sym, ◌∙◌}
+use mathlib.Core.Bool.{Bool, true, false, ◌&&◌, and-true}
 use mathlib.Core.List.Memᴰ
 use mathlib.Core.List.{List, [], ◌∷◌, append-nil}
-use Prim.Native.Nat.{ℕ, ◌<◌, ◌≤◌}
+use Prim.Native.Nat.{ℕ, ◌≤◌}
 use native.Mathlib.Omega.{arith}
+use Rattle.std.proofs.Common.{Option, Some, None, Ok, Err}
 use lib.IntN.{ℤ}
 use lib.ListN.{replicate, length-replicate}
-use lib.Dec.{eqb, leb}
-use borrow.Author.Tests.{ne_eqb, eqb-true, eqb-false, le-leb, leb-true}
+use lib.Dec.{leb}
+use borrow.Author.Tests.{le-leb, leb-true}
 use Rattle.lines.specs.Lists.{all}
-use Rattle.prefix.specs.Prefix.{entry, is_universal, is_existential, dependency, narrower, Told}
-use Rattle.prefix.proofs.Laws.{told_universal, told_existential, told_depends, depends_universal, narrower_one, narrower_none, narrower_depends}
+use Rattle.prefix.specs.Prefix.{entry, is_existential, dependency, narrower, Told}
+use Rattle.prefix.proofs.Laws.{told_universal, told_existential, told_depends, depends_universal, narrower_none, narrower_depends}
 use Rattle.rules.specs.Basics.{distinct}
 use Rattle.rules.specs.Literals.{Lits, var, vars}
 use Rattle.rules.specs.Formula.{Formula, universal, existential, depends_on}
 use Rattle.rules.specs.Expansion.{good_annotation}
 use Rattle.rules.proofs.Kit.{and_r, In, all_in, in_all_lem}
 use Rattle.lists.specs.Stores.{in_range}
-use Rattle.mapped.specs.declared.numbers.Item.{Item}
-use Rattle.mapped.specs.Numbers.{numbers_at, end_of, ruled, ItemAt}
+use Rattle.mapped.specs.Numbers.{ruled}
 use Rattle.mapped.specs.Marks.{noting, Notes}
-use Rattle.annotation.specs.declared.Narrowest.{Narrowest}
 use Rattle.annotation.specs.Annotation.{under, once, annotates, under_one, Walked}
-use Rattle.mapped.proofs.NumberLaws.{ruled_kept, ruled_broken, ruled_no, all_end, all_more, all_fails}
+use Rattle.rules.specs.declared.Rule.{Rule}
+use Rattle.rules.specs.declared.Rule.TheVariants.{BadAnnotation}
+use Rattle.rules.specs.Rule.{number}
+use Rattle.rules.proofs.RuleLaws.{number_not_zero}
+use Rattle.mapped.proofs.NumberLaws.{Testing, ruled_kept, ruled_broken, ruled_no, all_end, all_more, all_fails}
 use Rattle.mapped.proofs.MarkLaws.{noting_fresh, none_marked}
 
 -- NO VARIABLE TWICE: noted from no marks on
@@ -37,57 +40,46 @@ pub once_ruled : (us : List ℕ) {k e r : ℕ} {ns : List ℕ} → Notes us (rep
 once_ruled us {k} {e} n = n.answer ∙ ap (λ b. ruled k b e) (once_noted us)
 
 -- ONE E FOR ALL: what is under the narrower of two is under both
-under_narrower : (w : ℕ → ℕ) (e f u : ℕ) → 0 < f → under_one w (narrower w e f) u ≡ under_one w e u && dependency w f u
+under_narrower : (w : ℕ → ℕ) (e : Option ℕ) (f u : ℕ) → under_one w (Some (narrower w e f)) u ≡ under_one w e u && dependency w f u
 unfolding under_one
-under_narrower w e f u h =
-    ap (λ b. cond b (is_universal w u) (dependency w (narrower w e f) u)) (ne_eqb (narrower w e f) 0 (λ z. let k = narrower_one w e f h in omega arith))
-    ∙ go (eqb e 0) refl
-  where
-    go : (x : Bool) → eqb e 0 ≡ x → dependency w (narrower w e f) u ≡ cond x (is_universal w u) (dependency w e u) && dependency w f u
-    go true k =
-        ap (λ d. dependency w d u) (ap (λ d. narrower w d f) (eqb-true e 0 k) ∙ narrower_none w f) ∙ sym (depends_universal w f u)
-    go false k = narrower_depends w e f u (eqb-false e 0 k)
+under_narrower w None f u = ap (λ d. dependency w d u) (narrower_none w f) ∙ sym (depends_universal w f u)
+under_narrower w (Some e) f u = narrower_depends w e f u
 
--- A WALK over the E as far as i, of which e is the narrowest: with those that are left it is the whole
-pub record Walking (w : ℕ → ℕ) (bs : List ℕ) (at i e : ℕ) : Type 0 where
-  pub tests : (all (is_existential w) (numbers_at bs i) ≡ all (is_existential w) (numbers_at bs at)) × (end_of bs i ≡ end_of bs at)
-  pub narrow : (u : ℕ) → under_one w e u && all (λ d. dependency w d u) (numbers_at bs i) ≡ under w (numbers_at bs at) u
+-- A WALK over the E, of which e is the narrowest: with those that are left, es up to the end d, it is the whole
+pub record Walking (w : ℕ → ℕ) (es₀ : List ℕ) (d₀ : ℕ) (es : List ℕ) (d : ℕ) (e : Option ℕ) : Type 0 where
+  pub tests : Testing (is_existential w) es₀ d₀ es d
+  pub narrow : (u : ℕ) → under_one w e u && all (λ d. dependency w d u) es ≡ under w es₀ u
 
-module _ (w : ℕ → ℕ) (bs : List ℕ) (at : ℕ) where
-  pub walk_start : Walking w bs at at 0
-  unfolding under under_one
-  walk_start = record { tests = (refl, refl); narrow = λ u. refl }
+pub walk_start : (w : ℕ → ℕ) (es₀ : List ℕ) (d₀ : ℕ) → Walking w es₀ d₀ es₀ d₀ None
+unfolding under under_one
+walk_start w es₀ d₀ = record { tests = record { tests = refl; ends = refl }; narrow = λ u. refl }
 
-  module _ (i e : ℕ) (h : Walking w bs at i e) where
-    pub walk_end : {n : ℕ} → ItemAt bs i (Item.End n) → n ≡ 0 → Walked w (numbers_at bs at) (end_of bs at) (Narrowest.Of e)
-    walk_end o z = (
-      sym z ∙ all_end 8 (is_existential w) bs at i h.tests o,
-      λ u. sym (and-true (under_one w e u)) ∙ ap (λ es. under_one w e u && all (λ d. dependency w d u) es) (sym o.0) ∙ h.narrow u,
-    )
+module _ {w : ℕ → ℕ} {es₀ : List ℕ} {d₀ : ℕ} {es : List ℕ} {d : ℕ} {e : Option ℕ} (h : Walking w es₀ d₀ es d e) where
+  pub walk_end : es ≡ [] → d ≡ 0 → Walked w es₀ d₀ (Ok e)
+  walk_end o z = (
+    all_end 8 h.tests o (sym z),
+    λ u. sym (and-true (under_one w e u)) ∙ ap (λ es. under_one w e u && all (λ d. dependency w d u) es) (sym o) ∙ h.narrow u,
+  )
 
-    pub walk_lost : {n : ℕ} → ItemAt bs i (Item.End n) → (n ≡ 0 → ⊥) → Walked w (numbers_at bs at) (end_of bs at) (Narrowest.Refuse n)
-    walk_lost o z = (all_end 8 (is_existential w) bs at i h.tests o, z)
+  pub walk_lost : es ≡ [] → (r : Rule) → number r ≡ d → Walked w es₀ d₀ (Err r)
+  walk_lost o r z = all_end 8 h.tests o z
 
-    module _ {v a : ℕ} (o : ItemAt bs i (Item.Of v a)) where
-      pub walk_more : is_existential w v ≡ true → {n : ℕ} → n ≡ narrower w e v → Walking w bs at a n
-      walk_more t {n} q = record {
-        tests = all_more 8 (is_existential w) bs at i h.tests o t;
-        narrow = λ u.
-            ap (λ b. b && all (λ d. dependency w d u) (numbers_at bs a)) (ap (λ n. under_one w n u) q ∙ under_narrower w e v u o.1)
-            ∙ assoc (under_one w e u) (dependency w v u) (all (λ d. dependency w d u) (numbers_at bs a))
-            ∙ ap (λ es. under_one w e u && all (λ d. dependency w d u) es) (sym o.0) ∙ h.narrow u;
-      }
-        where
-          assoc : (a b c : Bool) → (a && b) && c ≡ a && (b && c)
-          assoc true b c = refl
-          assoc false b c = refl
+  module _ {v : ℕ} {rest : List ℕ} (o : es ≡ v ∷ rest) where
+    pub walk_more : is_existential w v ≡ true → {c : ℕ} → d ≡ c → {n : ℕ} → n ≡ narrower w e v → Walking w es₀ d₀ rest c (Some n)
+    walk_more t i {n} q = record {
+      tests = all_more 8 h.tests o t i;
+      narrow = λ u.
+          ap (λ b. b && all (λ d. dependency w d u) rest) (ap (λ n. under_one w (Some n) u) q ∙ under_narrower w e v u)
+          ∙ assoc (under_one w e u) (dependency w v u) (all (λ d. dependency w d u) rest)
+          ∙ ap (λ es. under_one w e u && all (λ d. dependency w d u) es) (sym o) ∙ h.narrow u;
+    }
+      where
+        assoc : (a b c : Bool) → (a && b) && c ≡ a && (b && c)
+        assoc true b c = refl
+        assoc false b c = refl
 
-      pub walk_fails : is_existential w v ≡ false → Walked w (numbers_at bs at) (end_of bs at) (Narrowest.Refuse 8)
-      walk_fails t = (all_fails 8 (is_existential w) bs at i h.tests o t, λ z. omega arith)
-
--- what the walk's answer tells
-pub walked_told : (w : ℕ → ℕ) (es : List ℕ) (d : ℕ) {r s : Narrowest} → r ≡ s → Walked w es d r → Walked w es d s
-walked_told w es d e h = subst (Walked w es d) e h
+    pub walk_fails : is_existential w v ≡ false → Walked w es₀ d₀ (Err BadAnnotation)
+    walk_fails t = all_fails 8 h.tests o t
 
 all_same : (p q : ℕ → Bool) (xs : List ℕ) → ((x : ℕ) → In x xs → p x ≡ q x) → all p xs ≡ all q xs
 all_same p q [] h = refl
@@ -99,10 +91,10 @@ unfolding annotates
 annotates_is w es us a b = ap₂ (λ x y. x && (y && all (under w es) us)) (sym a) (sym b)
 
 module _ (w : ℕ → ℕ) (es us : List ℕ) {c : ℕ} (z : c ≡ 0) where
-  pub annotates_1 : {n : ℕ} → Walked w es c (Narrowest.Refuse n) → n ≡ ruled 8 (annotates w es us) 0
-  annotates_1 h = let b = ruled_broken h.0 z h.1 in b.1 ∙ ruled_no 8 0 (sym (annotates_is w es us b.0 refl))
+  pub annotates_1 : (r : Rule) → Walked w es c (Err r) → number r ≡ ruled 8 (annotates w es us) 0
+  annotates_1 r h = let b = ruled_broken h z (number_not_zero r) in b.1 ∙ ruled_no 8 0 (sym (annotates_is w es us b.0 refl))
 
-  module _ (e : ℕ) (h : Walked w es c (Narrowest.Of e)) {m d : ℕ} (p : m ≡ ruled 8 (once us) d) (y : d ≡ 0) where
+  module _ (e : Option ℕ) (h : Walked w es c (Ok e)) {m d : ℕ} (p : m ≡ ruled 8 (once us) d) (y : d ≡ 0) where
     kept : all (is_existential w) es ≡ true
     kept = ruled_kept h.0 z (λ x. omega arith) refl
 

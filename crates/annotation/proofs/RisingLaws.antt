@@ -1,25 +1,20 @@
 -- Variables that rise: none comes twice. Assumes nothing.
 use mathlib.Core.Path.{◌≡◌, refl, ap, ap₂, sym, ◌∙◌}
-use mathlib.Core.Bool.{Bool, true, false, not, ◌&&◌}
+use mathlib.Core.Bool.{Bool, true, not, ◌&&◌}
 use mathlib.Core.List.{List, [], ◌∷◌}
 use Prim.Native.Nat.{ℕ, ◌<◌, ◌≤◌}
 use native.Mathlib.Omega.{arith}
 use lib.Dec.{eqb, leb, ltb}
-use borrow.Author.Tests.{eqb-true, lt-ltb, le-ltb, ltb-true}
+use borrow.Author.Tests.{eqb-true, lt-ltb, le-leb, ltb-true}
 use Rattle.lines.specs.Lists.{all}
 use Rattle.rules.specs.Basics.{is_in, distinct}
 use Rattle.rules.proofs.Kit.{and_l, and_r, or_cases, either, by_yes}
-use Rattle.mapped.specs.declared.numbers.Item.{Item}
-use Rattle.mapped.specs.Numbers.{numbers_at, end_of, ruled, ItemAt}
+use Rattle.mapped.specs.Numbers.{ruled}
 use Rattle.annotation.specs.Annotation.{once, follows, rising}
 
-pub follows_yes : (l u : ℕ) → l < u → leb u 16384 ≡ follows l u
+follows_yes : (l u : ℕ) → l < u → u ≤ 16384 → follows l u ≡ true
 unfolding follows
-follows_yes l u h = sym (ap (λ b. b && leb u 16384) (lt-ltb l u h))
-
-pub follows_no : (l u : ℕ) → u ≤ l → false ≡ follows l u
-unfolding follows
-follows_no l u h = sym (ap (λ b. b && leb u 16384) (le-ltb l u h))
+follows_yes l u h k = ap₂ (λ a b. a && b) (lt-ltb l u h) (le-leb u 16384 k)
 
 module _ (l u : ℕ) (us : List ℕ) (e : rising l (u ∷ us) ≡ true) where
   first : follows l u ≡ true
@@ -62,21 +57,19 @@ pub once_kept : {b : Bool} {e : ℕ} → (b ≡ true) × (e ≡ 0) → 0 ≡ rul
 unfolding ruled
 once_kept h = sym (ap₂ (ruled 8) h.0 h.1)
 
--- A WALK over the list as far as i, with the last variable l
-abbrev pub Rising : List ℕ → ℕ → ℕ → ℕ → Type 0
-Rising bs at l i = (rising l (numbers_at bs i) ≡ rising 0 (numbers_at bs at)) × (end_of bs i ≡ end_of bs at)
+-- A WALK over the list, with the last variable l; us up to the end d are left
+pub record Rising (us₀ : List ℕ) (d₀ l : ℕ) (us : List ℕ) (d : ℕ) : Type 0 where
+  pub rises : rising l us ≡ rising 0 us₀
+  pub ends : d ≡ d₀
 
-module _ (bs : List ℕ) (at l i : ℕ) (h : Rising bs at l i) where
-  pub rising_end : {n : ℕ} → ItemAt bs i (Item.End n) → eqb n 0 ≡ true → (once (numbers_at bs at) ≡ true) × (end_of bs at ≡ 0)
+module _ {us₀ : List ℕ} {d₀ l : ℕ} {us : List ℕ} {d : ℕ} (h : Rising us₀ d₀ l us d) where
+  pub rising_end : us ≡ [] → d ≡ 0 → (once us₀ ≡ true) × (d₀ ≡ 0)
   unfolding rising
-  rising_end {n} o z = (
-    rising_once 0 (numbers_at bs at) (sym h.0 ∙ ap (rising l) o.0),
-    sym (o.1 ∙ h.1) ∙ eqb-true n 0 z,
-  )
+  rising_end o z = (rising_once 0 us₀ (sym h.rises ∙ ap (rising l) o), sym h.ends ∙ z)
 
-  pub rising_more : {u a : ℕ} → ItemAt bs i (Item.Of u a) → follows l u ≡ true → Rising bs at u a
+  pub rising_more : {u : ℕ} {rest : List ℕ} → us ≡ u ∷ rest → {c : ℕ} → d ≡ c → l < u → u ≤ 16384 → Rising us₀ d₀ u rest c
   unfolding rising
-  rising_more {u} {a} o f = (
-    ap (λ b. b && rising u (numbers_at bs a)) (sym f) ∙ sym (ap (rising l) o.0) ∙ h.0,
-    sym o.5 ∙ h.1,
-  )
+  rising_more {u} {rest} o i a b = record {
+    rises = ap (λ b. b && rising u rest) (sym (follows_yes l u a b)) ∙ sym (ap (rising l) o) ∙ h.rises;
+    ends = sym i ∙ h.ends;
+  }

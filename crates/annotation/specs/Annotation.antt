@@ -1,10 +1,11 @@
 -- Rule 8, w giving each variable's word of the prefix table. Assumes nothing.
-use Rattle.std.specs.Prelude.{◌≡◌, Bool, true, cond, ◌&&◌, List, [], ◌∷◌, ℕ, eqb, leb, ltb}
+use Rattle.std.specs.Prelude.{◌≡◌, Bool, true, ◌&&◌, List, [], ◌∷◌, ℕ, leb, ltb, Option, Some, None, Result, Ok, Err}
 use Rattle.lines.specs.Lists.{all}
 use Rattle.prefix.specs.Prefix.{is_universal, is_existential, dependency}
 use Rattle.rules.specs.Basics.{distinct}
+use Rattle.rules.specs.declared.Rule.{Rule}
+use Rattle.rules.specs.Rule.{number}
 use Rattle.mapped.specs.Numbers.{ruled}
-use Rattle.annotation.specs.declared.Narrowest.{Narrowest}
 
 -- no variable twice, and none above 16384
 unfoldable pub once : List ℕ → Bool
@@ -27,11 +28,12 @@ module _ (w : ℕ → ℕ) where
   unfoldable pub annotates : List ℕ → List ℕ → Bool
   annotates es us = all (is_existential w) es && (once us && all (under es) us)
 
-  -- a universal in the dependency set of e; any universal where e is 0
-  unfoldable pub under_one : ℕ → ℕ → Bool
-  under_one e u = cond (eqb e 0) (is_universal w u) (dependency w e u)
+  -- a universal in the dependency set of e; any universal where there is no e
+  unfoldable pub under_one : Option ℕ → ℕ → Bool
+  under_one None u = is_universal w u
+  under_one (Some e) u = dependency w e u
 
   -- WHAT A WALK OVER THE E LEADS TO, `end` being what their list's end is: the one that answers for all; or a refusal
-  abbrev pub Walked : List ℕ → ℕ → Narrowest → Type 0
-  Walked es end (Narrowest.Of e) = (0 ≡ ruled 8 (all (is_existential w) es) end) × ((u : ℕ) → under_one e u ≡ under es u)
-  Walked es end (Narrowest.Refuse n) = (n ≡ ruled 8 (all (is_existential w) es) end) × (n ≡ 0 → ⊥)
+  abbrev pub Walked : List ℕ → ℕ → Result (Option ℕ) Rule → Type 0
+  Walked es end (Ok e) = (0 ≡ ruled 8 (all (is_existential w) es) end) × ((u : ℕ) → under_one e u ≡ under es u)
+  Walked es end (Err rule) = number rule ≡ ruled 8 (all (is_existential w) es) end

@@ -2,34 +2,33 @@
 use mathlib.Core.Path.{◌≡◌, refl, ap, ap₂, sym, ◌∙◌}
 use mathlib.Core.Bool.{Bool, true, false, not, cond, ◌&&◌}
 use mathlib.Core.List.{List, [], ◌∷◌, ◌++◌, map}
-use Prim.Native.Nat.{ℕ, ◌+◌, ◌-◌, ◌/◌, ◌<◌, ◌≤◌}
+use Prim.Native.Nat.{ℕ, suc, ◌+◌, ◌-◌, ◌/◌, ◌<◌, ◌≤◌}
 use native.Mathlib.Omega.{arith}
 use lib.Dec.{eqb}
 use lib.IntN.{ℤ}
-use lib.ListN.{length, get_or}
+use lib.ListN.{length, get_or, drop, length-drop}
 use borrow.Author.Tests.{eq-eqb, ne_eqb}
 use Rattle.lines.specs.Lists.{all, keep}
-use Rattle.cells.specs.Cells.{list_at, code_at}
-use Rattle.cells.proofs.Laws.{list_past}
+use Rattle.cells.specs.Cells.{list_at, up_to, codes_of}
+use Rattle.cells.proofs.Laws.{list_past, codes_length}
 use Rattle.rules.specs.Basics.{is_in}
 use Rattle.rules.specs.Codes.{flip}
 use Rattle.prefix.specs.Prefix.{is_universal, dependency}
 use Rattle.assignment.specs.Held.{listed, joined, adding}
 use Rattle.copies.specs.Copies.{annotation_at, annotation_of}
 use Rattle.assignment.specs.Annotations.{alone, apart, annotations_of, negations, part_size, is_part, least_of, copy_fits, annotations_fit}
-use Rattle.copies.proofs.Walks.{stop, more}
 use Rattle.assignment.proofs.HeldLaws.{listed_none, listed_down, listed_length, joined_append, joined_twice}
 use Rattle.copies.proofs.Choices.{yes, no}
 
--- THE LEAST t. The walk that adds codes
-module _ (t whole : List ℕ) (m : List ℤ) (i : ℕ) {r : ℕ} (e : r ≡ code_at m i) (inv : joined t (list_at m i) ≡ whole) where
-  pub join_stop : r ≡ 0 → t ≡ whole
+-- THE LEAST t. The walk that adds codes: r comes first in what is left, ys, and zs is left after it
+module _ (t whole : List ℕ) {ys : List ℕ} (inv : joined t ys ≡ whole) where
+  pub join_stop : ys ≡ [] → t ≡ whole
   unfolding joined
-  join_stop z = sym (ap (joined t) (stop m i e z)) ∙ inv
+  join_stop e = sym (ap (joined t) e) ∙ inv
 
-  pub join_turn : (r ≡ 0 → ⊥) → {u : List ℕ} → u ≡ adding t r → joined u (list_at m (i + 1)) ≡ whole
+  pub join_turn : {r : ℕ} {zs : List ℕ} → ys ≡ r ∷ zs → {u : List ℕ} → u ≡ adding t r → joined u zs ≡ whole
   unfolding joined
-  join_turn z q = ap (λ (l : List ℕ). joined l (list_at m (i + 1))) q ∙ sym (ap (joined t) (more m i e z)) ∙ inv
+  join_turn {r} {zs} e q = ap (λ (l : List ℕ). joined l zs) q ∙ sym (ap (joined t) e) ∙ inv
 
 pub join_past : (t : List ℕ) (m : List ℤ) → joined t (list_at m (length m)) ≡ t
 unfolding joined
@@ -56,34 +55,33 @@ module _ (w : ℕ → ℕ) where
     unfolding negations joined
     negation_no u = sym (ap (λ b. joined t (map flip (elim b as (λ _. List ℕ) [ true ↦ y ∷ [] | false ↦ [] ]))) u)
 
-  module _ (t whole : List ℕ) (m : List ℤ) (i : ℕ) {r : ℕ} (e : r ≡ code_at m i) (inv : joined t (negations w (list_at m i)) ≡ whole) where
-    pub negations_stop : r ≡ 0 → t ≡ whole
+  module _ (t whole : List ℕ) {ys : List ℕ} (inv : joined t (negations w ys) ≡ whole) where
+    pub negations_stop : ys ≡ [] → t ≡ whole
     unfolding joined negations
-    negations_stop z = sym (ap (λ l. joined t (negations w l)) (stop m i e z)) ∙ inv
+    negations_stop e = sym (ap (λ l. joined t (negations w l)) e) ∙ inv
 
-    pub negations_turn : (r ≡ 0 → ⊥) → {u : List ℕ} → u ≡ joined t (negations w (r ∷ [])) → joined u (negations w (list_at m (i + 1))) ≡ whole
-    negations_turn z q =
-        ap (λ (l : List ℕ). joined l (negations w (list_at m (i + 1)))) q ∙ sym (joined_append t (negations w (r ∷ [])) (negations w (list_at m (i + 1))))
-        ∙ ap (joined t) (sym (negations_more r (list_at m (i + 1)))) ∙ sym (ap (λ l. joined t (negations w l)) (more m i e z)) ∙ inv
+    pub negations_turn : {r : ℕ} {zs : List ℕ} → ys ≡ r ∷ zs → {u : List ℕ} → u ≡ joined t (negations w (r ∷ [])) → joined u (negations w zs) ≡ whole
+    negations_turn {r} {zs} e q =
+        ap (λ (l : List ℕ). joined l (negations w zs)) q ∙ sym (joined_append t (negations w (r ∷ [])) (negations w zs))
+        ∙ ap (joined t) (sym (negations_more r zs)) ∙ sym (ap (λ l. joined t (negations w l)) e) ∙ inv
 
 -- the annotations of the line's copies
-module _ (vs mp pf : List ℤ) (t whole : List ℕ) (i : ℕ) {r : ℕ} (e : r ≡ code_at pf i)
-    (inv : joined t (annotations_of (annotation_of vs mp) (list_at pf i)) ≡ whole) where
-  pub notes_stop : r ≡ 0 → t ≡ whole
+module _ (vs mp : List ℤ) (t whole : List ℕ) {ys : List ℕ} (inv : joined t (annotations_of (annotation_of vs mp) ys) ≡ whole) where
+  pub notes_stop : ys ≡ [] → t ≡ whole
   unfolding joined annotations_of
-  notes_stop z = sym (ap (λ l. joined t (annotations_of (annotation_of vs mp) l)) (stop pf i e z)) ∙ inv
+  notes_stop e = sym (ap (λ l. joined t (annotations_of (annotation_of vs mp) l)) e) ∙ inv
 
-  pub notes_turn : (r ≡ 0 → ⊥) → {a : ℕ} → a ≡ annotation_at vs mp (r / 2) → {u : List ℕ} → u ≡ joined t (list_at mp a)
-      → (joined u (list_at mp a) ≡ u) × (joined u (annotations_of (annotation_of vs mp) (list_at pf (i + 1))) ≡ whole)
+  pub notes_turn : {r : ℕ} {zs : List ℕ} → ys ≡ r ∷ zs → {a : ℕ} → a ≡ annotation_at vs mp (r / 2) → {u : List ℕ} → u ≡ joined t (list_at mp a)
+      → (joined u (list_at mp a) ≡ u) × (joined u (annotations_of (annotation_of vs mp) zs) ≡ whole)
   unfolding annotation_of annotations_of
-  notes_turn z {a} h q = (
+  notes_turn {r} {zs} e {a} h q = (
     ap (λ (l : List ℕ). joined l (list_at mp a)) q ∙ joined_twice t (list_at mp a) ∙ sym q,
     ap (λ (l : List ℕ). joined l rest) (q ∙ ap (λ n. joined t (list_at mp n)) h) ∙ sym (joined_append t (list_at mp (annotation_at vs mp (r / 2))) rest)
-        ∙ sym (ap (λ l. joined t (annotations_of (annotation_of vs mp) l)) (more pf i e z)) ∙ inv,
+        ∙ sym (ap (λ l. joined t (annotations_of (annotation_of vs mp) l)) e) ∙ inv,
   )
     where
       rest : List ℕ
-      rest = annotations_of (annotation_of vs mp) (list_at pf (i + 1))
+      rest = annotations_of (annotation_of vs mp) zs
 
 -- both signs
 module _ (h t : List ℕ) {i : ℕ} {whole : Bool} (inv : all (alone t) (listed h i) ≡ whole) where
@@ -130,13 +128,6 @@ module _ (w : ℕ → ℕ) (e : ℕ) where
     pub tally_no : (k : ℕ) → dependency w e (y / 2) ≡ false → k ≡ k + part_size w (y ∷ []) e
     tally_no k d = omega (arith, size_no d)
 
-    pub tally_one : part_size w (y ∷ []) e ≤ 1
-    tally_one = go (dependency w e (y / 2)) refl
-      where
-        go : (b : Bool) → dependency w e (y / 2) ≡ b → part_size w (y ∷ []) e ≤ 1
-        go true d = omega (arith, size_yes d)
-        go false d = omega (arith, size_no d)
-
   module _ (h : List ℕ) (i k : ℕ) {whole : ℕ} (inv : k + part_size w (listed h i) e ≡ whole) where
     pub size_end : i ≤ 0 → k ≡ whole
     unfolding part_size
@@ -150,13 +141,18 @@ module _ (w : ℕ → ℕ) (e : ℕ) where
         omega (arith, z, u, x, q, inv)
 
 -- HOW LONG AN ANNOTATION IS
-module _ (m : List ℤ) (i a : ℕ) {r : ℕ} (e : r ≡ code_at m i) where
-  pub long_end : r ≡ 0 → a ≤ i → length (list_at m a) ≡ (i - a) + length (list_at m i) → i - a ≡ length (list_at m a)
-  long_end z h q = let k = ap {A = List ℕ} length (stop m i e z) in omega arith
+up_to_bound : (xs : List ℕ) → length (up_to xs) ≤ length xs
+unfolding up_to
+up_to_bound [] = omega arith
+up_to_bound (x ∷ xs) = go (eqb x 0) (up_to_bound xs)
+  where
+    go : (b : Bool) → length (up_to xs) ≤ length xs → length {A = ℕ} (cond b [] (x ∷ up_to xs)) ≤ suc (length xs)
+    go true h = omega arith
+    go false h = omega arith
 
-  pub long_turn : (r ≡ 0 → ⊥) → a ≤ i → length (list_at m a) ≡ (i - a) + length (list_at m i)
-      → length (list_at m a) ≡ (i + 1 - a) + length (list_at m (i + 1))
-  long_turn z h q = let k = ap {A = List ℕ} length (more m i e z) in omega arith
+pub codes_bound : (m : List ℤ) (a : ℕ) → length (list_at m a) ≤ length m
+unfolding list_at
+codes_bound m a = let h = up_to_bound (drop a (codes_of m)) in omega (arith, h, length-drop a (codes_of m), codes_length m)
 
 pub long_past : (m : List ℤ) → 0 ≡ length (list_at m (length m))
 long_past m = sym (ap {A = List ℕ} length (list_past m (length m) (omega arith)))

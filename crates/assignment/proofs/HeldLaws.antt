@@ -14,7 +14,7 @@ use Rattle.rules.specs.Basics.{is_in, distinct}
 use Rattle.rules.proofs.Kit.{clear, and_l, and_r, either, In}
 use Rattle.rules.proofs.Distinct.{in_is_in, is_in_in, distinct_cons}
 use Rattle.copies.specs.Marks.{Unmarked}
-use Rattle.copies.proofs.MarkLaws.{get_or_zeros}
+use Rattle.copies.proofs.MarkLaws.{get_or_zeros, zero_there}
 use Rattle.assignment.specs.Held.{listed, is_new, adding, joined, zeros, Held, Holds, Noted}
 
 -- THE LIST IN AN ARRAY
@@ -194,9 +194,6 @@ module _ (s h : List ℕ) (n : ℕ) (held : Held s h n) where
         go true = refl
         go false = refl
 
-    pub mark_out : length s ≤ y → false ≡ is_in t y
-    mark_out l = sym (ap (λ k. eqb k 1) (get_or-eq_default s 0 l)) ∙ mark_is
-
     module _ (e : is_new s y ≡ true) where
       fresh : is_in t y ≡ false
       fresh = sym mark_is ∙ ap (λ k. eqb k 1) (new_bare s y e)
@@ -257,9 +254,6 @@ pub record Left (s h : List ℕ) (i : ℕ) : Type 0 where
   pub long : 8194 ≤ length s
   pub none : (y : ℕ) → is_in (listed h i) y ≡ false → get_or s y 0 ≡ 0
 
-pub left_all : (s h : List ℕ) (n : ℕ) → Held s h n → Left s h n
-left_all s h n held = record { long = held.long; none = λ y e. held.marked y ∙ ap (λ b. cond b 1 0) e }
-
 module _ (s h : List ℕ) (i : ℕ) (left : Left s h i) where
   pub left_none : i ≤ 0 → Unmarked s
   left_none l = record { long = left.long; none = λ y. left.none y (ap (λ (t : List ℕ). is_in t y) (listed_none h l)) }
@@ -271,19 +265,15 @@ module _ (s h : List ℕ) (i : ℕ) (left : Left s h i) where
         ap (λ (t : List ℕ). is_in t y) (listed_down h l)
         ∙ ap₂ (λ a b. a || b) (ne_eqb y (get_or h (i - 1) 0) (λ z. d (z ∙ sym q))) e
 
-    pub left_more : v < length s → Left (set s v 0) h (i - 1)
-    left_more k = record { long = omega (arith, length-set s v 0, left.long); none = λ y e. go y e (eqb y v) refl }
+    pub left_more : {u : List ℕ} → u ≡ set s v 0 → Left u h (i - 1)
+    left_more {u} k = record {
+      long = omega (arith, ap (length {A = ℕ}) k, length-set s v 0, left.long);
+      none = λ y e. ap (λ (t : List ℕ). get_or t y 0) k ∙ go y e (eqb y v) refl;
+    }
       where
         go : (y : ℕ) → is_in (listed h (i - 1)) y ≡ false → (b : Bool) → eqb y v ≡ b → get_or (set s v 0) y 0 ≡ 0
-        go y e true z = ap (λ j. get_or (set s v 0) j 0) (eqb-true y v z) ∙ get_or-set_same s v 0 0 k
+        go y e true z = ap (λ j. get_or (set s v 0) j 0) (eqb-true y v z) ∙ zero_there s v
         go y e false z = let d = eqb-false y v z in get_or-set_other s v y 0 0 d ∙ left.none y (gone y d e)
-
-    pub left_out : length s ≤ v → Left s h (i - 1)
-    left_out k = record { long = left.long; none = λ y e. go y e (eqb y v) refl }
-      where
-        go : (y : ℕ) → is_in (listed h (i - 1)) y ≡ false → (b : Bool) → eqb y v ≡ b → get_or s y 0 ≡ 0
-        go y e true z = ap (λ j. get_or s j 0) (eqb-true y v z) ∙ get_or-eq_default s 0 k
-        go y e false z = left.none y (gone y (eqb-false y v z) e)
 
 -- NOTES
 pub noted_none : (size : ℕ → ℕ) (n : ℕ) → Noted size (replicate n 0)
@@ -295,9 +285,9 @@ module _ (size : ℕ → ℕ) (memo : List ℕ) (n : Noted size memo) (e : ℕ) 
   unfolding Noted
   noted_read q h = let z = n e (λ y. h (q ∙ y)) in omega arith
 
-  pub noted_more : {s : ℕ} → s ≡ size e → Noted size (set memo e (s + 1))
+  noted_here : {s : ℕ} → s ≡ size e → Noted size (set memo e (s + 1))
   unfolding Noted
-  noted_more {s} q k h = go (eqb k e) refl (ltb e (length memo)) refl
+  noted_here {s} q k h = go (eqb k e) refl (ltb e (length memo)) refl
     where
       go : (b : Bool) → eqb k e ≡ b → (c : Bool) → ltb e (length memo) ≡ c → get_or (set memo e (s + 1)) k 0 ≡ size k + 1
       go true p true l =
@@ -310,3 +300,6 @@ module _ (size : ℕ → ℕ) (memo : List ℕ) (n : Noted size memo) (e : ℕ) 
           ∙ ap (λ j. get_or memo j 0) r ∙ get_or-eq_default memo 0 (ltb-false e (length memo) l)))
       go false p c l =
           let o = get_or-set_other memo e k (s + 1) 0 (eqb-false k e p) in o ∙ n k (λ z. h (o ∙ z))
+
+  pub noted_more : {s : ℕ} → s ≡ size e → {m : List ℕ} → m ≡ set memo e (s + 1) → Noted size m
+  noted_more {s} q {m} p = let P : List ℕ → Type 0 = Noted size in subst P (sym p) (noted_here q)

@@ -1,15 +1,24 @@
-// The least t: the negations of the clause's universal literals and the annotations of the line's copies, each literal once. Its codes
-// are marked in `seen` and listed in the first n places of `held`; both arrays are lent.
+// The least t: the negations of the clause's universal literals and the annotations of the line's copies, each literal once.
 ghost use Rattle.std.specs.Prelude.{◌≡◌, [], ◌∷◌, ◌<◌, ◌≤◌, get_or};
 ghost use Rattle.rules.specs.Basics.{is_in};
 ghost use Rattle.rules.specs.Codes.{flip};
 ghost use Rattle.copies.specs.Marks.{Unmarked};
-ghost use Rattle.copies.specs.Copies.{words, annotation_in, list_in};
-ghost use Rattle.assignment.specs.Held.{listed, is_new, adding, joined, Held, Holds};
-ghost use Rattle.assignment.specs.Annotations.{apart, negations, annotations_of};
+ghost use Rattle.copies.specs.Copies.{words, annotation_in, list_in, line_in};
+ghost use Rattle.assignment.specs.Held.{is_new, adding, joined};
+ghost use Rattle.assignment.specs.Least.{items_of, HeldIn, HoldsIn, SameArrays};
+ghost use Rattle.assignment.specs.Annotations.{apart, negations, annotations_of, part_size};
 
+use cells::Codes;
+use copies::View;
 use copies::marks::CODES;
-use copies::read;
+
+// Its codes are marked in `seen` and listed in the first `count` places of `held`; both arrays are lent.
+#[derive(Drop)]
+pub struct Least<'a> {
+    pub seen: &'a mut [u8],
+    pub held: &'a mut [u16],
+    pub count: usize,
+}
 
 // The code of the negation.
 fn negated(y: usize) -> usize
@@ -19,191 +28,149 @@ fn negated(y: usize) -> usize
     (y + 1) - 2 * (y % 2)
 }
 
-pub fn wide(x: u16) -> usize
-    ensures { (result ≡ x) × (result < 65536) }
-{
-    x as usize
-}
-
 // The code at a place of the list.
-pub fn code_at(held: &[u16], i: usize) -> usize
+fn code_at(held: &[u16], i: usize) -> usize
     ensures { (result ≡ get_or held.now i 0) × (result < 65536) }
 {
-    if i < held.len() {
-        return wide(held[i]);
-    }
-    0
+    held.get(i).copied().unwrap_or(0) as usize
 }
 
-// Whether literal y can be added: it is a formula's, and has a place without a mark.
-fn is_new(seen: &[u8], y: usize) -> bool
-    ensures { result ≡ is_new seen.now y }
-{
-    if y < CODES {
-        if y < seen.len() {
-            return seen[y] == 0;
+impl<'a> Least<'a> {
+    // The same of the list that is held.
+    fn code(&self, i: usize) -> usize
+        ensures { (result ≡ get_or self.now.held.now i 0) × (result < 65536) }
+    {
+        code_at(self.held, i)
+    }
+
+    // Whether literal y can be added: it is a formula's, and has a place without a mark.
+    fn is_new(&self, y: usize) -> bool
+        ensures { result ≡ is_new self.now.seen.now y }
+    {
+        if y < CODES && y < self.seen.len() {
+            return self.seen[y] == 0;
         }
+        false
     }
-    false
-}
 
-// Adds a literal, unless it is there.
-fn add(seen: &mut [u8], held: &mut [u16], n: usize, y: usize) -> usize
-    requires { n ≤ 8194 }
-    ensures { (result ≤ 8194) × (Held seen.old held.old n
-        → Holds seen.new held.new result (adding (listed held.old n) y)) }
-{
-    if is_new(seen, y) {
-        if n < CODES {
-            if n < held.len() {
-                seen[y] = 1;
-                held[n] = y as u16;
-                return n + 1;
+    // Adds a literal, unless it is there.
+    fn add(&mut self, y: usize)
+        requires { self.old.count ≤ 8194 }
+        ensures room { self.new.count ≤ 8194 }
+        ensures lent { SameArrays self.old self.new }
+        ensures held { HeldIn self.old → HoldsIn self.new (adding (items_of self.old) y) }
+    {
+        let n = self.count;
+        if self.is_new(y) {
+            if n < CODES {
+                if n < self.held.len() {
+                    self.seen[y] = 1;
+                    self.held[n] = y as u16;
+                    self.count = n + 1;
+                }
             }
         }
     }
-    n
-}
 
-// Adds the literals from place a of the map on.
-fn join(seen: &mut [u8], held: &mut [u16], n: usize, map: &[i32], a: usize) -> usize
-    requires { n ≤ 8194 }
-    ensures { (result ≤ 8194) × (Held seen.old held.old n
-        → Holds seen.new held.new result (joined (listed held.old n) (list_in map.now a))) }
-{
-    let mut k = n;
-    let mut i = a;
-    loop {
-        let y = read::code(map, i);
-        if y == 0 {
-            return k;
-        }
-        k = add(seen, held, k, y);
-        i += 1;
-    }
-}
-
-// The same where those from place `last` on are there already: copies of one mapping line share the place of their annotation.
-fn join_next(
-    seen: &mut [u8],
-    held: &mut [u16],
-    n: usize,
-    map: &[i32],
-    last: usize,
-    a: usize,
-) -> usize
-    requires { n ≤ 8194 }
-    ensures { (result ≤ 8194) × (Held seen.old held.old n
-        → joined (listed held.old n) (list_in map.now last) ≡ listed held.old n
-        → Holds seen.new held.new result (joined (listed held.old n) (list_in map.now a))) }
-{
-    if a == last {
-        return n;
-    }
-    join(seen, held, n, map, a)
-}
-
-// Adds the annotations of the line's copies.
-pub fn join_annotations(
-    seen: &mut [u8],
-    held: &mut [u16],
-    n: usize,
-    values: &[i32],
-    map: &[i32],
-    proof: &[i32],
-    l: usize,
-) -> usize
-    requires { n ≤ 8194 }
-    ensures { (result ≤ 8194) × (Held seen.old held.old n → Holds seen.new held.new result
-        (joined (listed held.old n) (annotations_of (annotation_in values.now map.now) (list_in proof.now l)))) }
-{
-    let mut k = n;
-    let mut last = map.len();
-    let mut i = l;
-    loop {
-        let x = read::code(proof, i);
-        if x == 0 {
-            return k;
-        }
-        let a = copies::annotation_at(values, map, x / 2);
-        k = join_next(seen, held, k, map, last, a);
-        last = a;
-        i += 1;
-    }
-}
-
-// Adds the negation of y if it is universal.
-fn join_negation(seen: &mut [u8], held: &mut [u16], n: usize, prefix: &[i32], y: usize) -> usize
-    requires { (n ≤ 8194) × (y < 65536) }
-    ensures { (result ≤ 8194) × (Held seen.old held.old n → Holds seen.new held.new result
-        (joined (listed held.old n) (negations (words prefix.now) (y ∷ [])))) }
-{
-    let z = negated(y);
-    if prefix::universal(prefix, y / 2) {
-        return add(seen, held, n, z);
-    }
-    n
-}
-
-// Adds the negations of the clause's universal literals.
-pub fn join_negations(
-    seen: &mut [u8],
-    held: &mut [u16],
-    n: usize,
-    prefix: &[i32],
-    matrix: &[i32],
-    c: usize,
-) -> usize
-    requires { n ≤ 8194 }
-    ensures { (result ≤ 8194) × (Held seen.old held.old n → Holds seen.new held.new result
-        (joined (listed held.old n) (negations (words prefix.now) (list_in matrix.now c)))) }
-{
-    let mut k = n;
-    let mut i = c;
-    loop {
-        let y = read::code(matrix, i);
-        if y == 0 {
-            return k;
-        }
-        k = join_negation(seen, held, k, prefix, y);
-        i += 1;
-    }
-}
-
-// Whether literal y is there.
-fn holds(seen: &[u8], held: &[u16], n: usize, y: usize) -> bool
-    ensures { Held seen.now held.now n → result ≡ is_in (listed held.now n) y }
-{
-    if y < seen.len() {
-        return seen[y] == 1;
-    }
-    false
-}
-
-// No literal is there together with its negation.
-pub fn one_signed(seen: &[u8], held: &[u16], n: usize) -> bool
-    ensures { Held seen.now held.now n → result ≡ apart (listed held.now n) }
-{
-    let mut i = n;
-    while 0 < i {
-        i -= 1;
-        if holds(seen, held, n, negated(code_at(held, i))) {
-            return false;
+    // Adds the literals from place a of the map on.
+    fn join(&mut self, map: &[i32], a: usize)
+        requires { self.old.count ≤ 8194 }
+        ensures room { self.new.count ≤ 8194 }
+        ensures lent { SameArrays self.old self.new }
+        ensures held { HeldIn self.old → HoldsIn self.new (joined (items_of self.old) (list_in map.now a)) }
+    {
+        for y in Codes::new(map, a) {
+            self.add(y as usize);
         }
     }
-    true
-}
 
-// The marks of the literals in the list are taken back.
-pub fn take_back(seen: &mut [u8], held: &[u16], n: usize)
-    ensures { Held seen.old held.now n → Unmarked seen.new }
-{
-    let mut i = n;
-    while 0 < i {
-        i -= 1;
-        let y = code_at(held, i);
-        if y < seen.len() {
-            seen[y] = 0;
+    // Adds the annotations of the line's copies. Copies of one mapping line, which often follow each other, share the place of theirs.
+    pub fn join_annotations(&mut self, view: View)
+        requires { self.old.count ≤ 8194 }
+        ensures room { self.new.count ≤ 8194 }
+        ensures lent { SameArrays self.old self.new }
+        ensures held { HeldIn self.old
+            → HoldsIn self.new (joined (items_of self.old) (annotations_of (annotation_in view.entry) (line_in view.entry))) }
+    {
+        let mut last = view.map.len();
+        for x in view.codes() {
+            let a = view.annotation_at(x as usize / 2);
+            if a != last {
+                self.join(view.map, a);
+                last = a;
+            }
+        }
+    }
+
+    // Adds the negation of y if it is universal.
+    fn join_negation(&mut self, view: View, y: usize)
+        requires { (self.old.count ≤ 8194) × (y < 65536) }
+        ensures room { self.new.count ≤ 8194 }
+        ensures lent { SameArrays self.old self.new }
+        ensures held { HeldIn self.old → HoldsIn self.new (joined (items_of self.old) (negations (words view.entry) (y ∷ []))) }
+    {
+        if prefix::universal(view.prefix, y / 2) {
+            self.add(negated(y));
+        }
+    }
+
+    // Adds the negations of the clause's universal literals.
+    pub fn join_negations(&mut self, view: View, matrix: &[i32], c: usize)
+        requires { self.old.count ≤ 8194 }
+        ensures room { self.new.count ≤ 8194 }
+        ensures lent { SameArrays self.old self.new }
+        ensures held { HeldIn self.old
+            → HoldsIn self.new (joined (items_of self.old) (negations (words view.entry) (list_in matrix.now c))) }
+    {
+        for y in Codes::new(matrix, c) {
+            self.join_negation(view, y as usize);
+        }
+    }
+
+    // Whether literal y is there.
+    fn holds(&self, y: usize) -> bool
+        ensures { HeldIn self.now → result ≡ is_in (items_of self.now) y }
+    {
+        self.seen.get(y) == Some(&1)
+    }
+
+    // No literal is there together with its negation.
+    pub fn one_signed(&self) -> bool
+        ensures { HeldIn self.now → result ≡ apart (items_of self.now) }
+    {
+        let held = &*self.held;
+        for i in (0..self.count).rev() {
+            if self.holds(negated(code_at(held, i))) {
+                return false;
+            }
+        }
+        true
+    }
+
+    // How many of the literals are of universals that e depends on.
+    pub fn part_size(&self, view: View, e: usize) -> usize
+        requires { self.now.count ≤ 8194 }
+        ensures { (result ≡ part_size (words view.entry) (items_of self.now) e) × (result ≤ 8194) }
+    {
+        let mut k: usize = 0;
+        let held = &*self.held;
+        for i in (0..self.count).rev() {
+            if prefix::depends(view.prefix, e, code_at(held, i) / 2) {
+                k += 1;
+            }
+        }
+        k
+    }
+
+    // The marks of the literals in the list are taken back.
+    pub fn take_back(&mut self)
+        ensures lent { SameArrays self.old self.new }
+        ensures kept { (self.new.held.now ≡ self.old.held.now) × (self.new.count ≡ self.old.count) }
+        ensures unmarked { HeldIn self.old → Unmarked self.new.seen.now }
+    {
+        for i in (0..self.count).rev() {
+            let y = self.code(i);
+            cells::set_at(self.seen, y, 0);
         }
     }
 }

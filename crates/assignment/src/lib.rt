@@ -3,14 +3,17 @@
 
 mod least;
 
-ghost use Rattle.std.specs.Prelude.{◌≡◌, [], ◌∷◌, cond, false, ◌+◌, ◌<◌, ◌≤◌, length};
+ghost use Rattle.std.specs.Prelude.{◌≡◌, cond, false, ◌+◌, ◌<◌, ◌≤◌, length};
 ghost use Rattle.lines.specs.Lists.{all};
 ghost use Rattle.copies.specs.Marks.{Unmarked};
-ghost use Rattle.copies.specs.Copies.{words, stands_in, annotation_in, list_in};
-ghost use Rattle.assignment.specs.Held.{listed, Held, Noted};
+ghost use Rattle.copies.specs.Copies.{words, stands_in, annotation_in, list_in, line_in};
+ghost use Rattle.assignment.specs.Held.{Noted};
+ghost use Rattle.assignment.specs.Least.{items_of, HeldIn};
 ghost use Rattle.assignment.specs.Annotations.{apart, part_size, is_part, copy_fits, annotations_fit};
 
-use copies::read;
+use cells::Codes;
+use copies::View;
+use least::Least;
 
 // A formula's variables lie below this.
 const VARIABLES: usize = 4097;
@@ -18,73 +21,41 @@ const VARIABLES: usize = 4097;
 // In a line of so many literals the sizes of the parts are noted.
 const LONG: usize = 64;
 
-// k, and one more if e depends on literal y.
-fn tally(prefix: &[i32], e: usize, y: usize, k: usize) -> usize
-    requires { k < 65536 }
-    ensures { result ≡ k + part_size (words prefix.now) (y ∷ []) e }
-{
-    if prefix::depends(prefix, e, y / 2) {
-        return k + 1;
-    }
-    k
-}
-
-// How many literals of t are of universals that e depends on; t is listed in the first n places.
-fn part_size(prefix: &[i32], held: &[u16], n: usize, e: usize) -> usize
-    requires { n ≤ 8194 }
-    ensures { (result ≡ part_size (words prefix.now) (listed held.now n) e) × (result ≤ 8194) }
-{
-    let mut k: usize = 0;
-    let mut i = n;
-    while 0 < i {
-        i -= 1;
-        k = tally(prefix, e, least::code_at(held, i), k);
-    }
-    k
-}
-
-// The same, with one more than the size noted for each existential that has a place in `sizes`; 0 is noted where it was not counted yet.
-fn size_of(sizes: &mut [u16], prefix: &[i32], held: &[u16], n: usize, e: usize) -> usize
-    requires { (n ≤ 8194) × Noted (part_size (words prefix.now) (listed held.now n)) sizes.old }
-    ensures { (result ≡ part_size (words prefix.now) (listed held.now n) e)
-        × Noted (part_size (words prefix.now) (listed held.now n)) sizes.new }
+// How many literals of t are of universals that e depends on. One more than that is noted for each existential that has a place in `sizes`;
+// 0 is noted where it was not counted yet.
+fn size_of(sizes: &mut [u16], view: View, least: &Least, e: usize) -> usize
+    requires { (least.now.count ≤ 8194) × Noted (part_size (words view) (items_of least.now)) sizes.old }
+    ensures { (result ≡ part_size (words view.entry) (items_of least.now) e)
+        × Noted (part_size (words view.entry) (items_of least.now)) sizes.new }
 {
     if e < sizes.len() {
-        let k = least::wide(sizes[e]);
-        if k != 0 {
-            return k - 1;
+        let noted = sizes[e] as usize;
+        if noted != 0 {
+            return noted - 1;
         }
-        let s = part_size(prefix, held, n, e);
-        sizes[e] = (s + 1) as u16;
-        return s;
     }
-    part_size(prefix, held, n, e)
+    let size = least.part_size(view, e);
+    cells::set_at(sizes, e, (size + 1) as u16);
+    size
 }
 
 // Whether `long` literals within e's part of t are all of it.
-fn is_part(sizes: &mut [u16], prefix: &[i32], held: &[u16], n: usize, e: usize, long: usize) -> bool
-    requires { (n ≤ 8194) × Noted (part_size (words prefix.now) (listed held.now n)) sizes.old }
-    ensures { (result ≡ is_part (words prefix.now) (listed held.now n) e long)
-        × Noted (part_size (words prefix.now) (listed held.now n)) sizes.new }
+fn is_part(sizes: &mut [u16], view: View, least: &Least, e: usize, long: usize) -> bool
+    requires { (least.now.count ≤ 8194) × Noted (part_size (words view) (items_of least.now)) sizes.old }
+    ensures { (result ≡ is_part (words view.entry) (items_of least.now) e long)
+        × Noted (part_size (words view.entry) (items_of least.now)) sizes.new }
 {
-    if long == n {
+    if long == least.count {
         return true;
     }
-    size_of(sizes, prefix, held, n, e) == long
+    size_of(sizes, view, least, e) == long
 }
 
 // How many literals there are from place a of the map on.
 fn length_at(map: &[i32], a: usize) -> usize
     ensures { result ≡ length (list_in map.now a) }
 {
-    let mut i = a;
-    loop {
-        let y = read::code(map, i);
-        if y == 0 {
-            return i - a;
-        }
-        i += 1;
-    }
+    Codes::new(map, a).count()
 }
 
 // The same where there are `long` from place `last` on: copies of one mapping line share the place of their annotation.
@@ -99,64 +70,37 @@ fn length_next(map: &[i32], last: usize, long: usize, a: usize) -> usize
 }
 
 // Each copy's annotation is as long as its part of t.
-fn copies_fit(
-    sizes: &mut [u16],
-    prefix: &[i32],
-    values: &[i32],
-    map: &[i32],
-    proof: &[i32],
-    l: usize,
-    held: &[u16],
-    n: usize,
-) -> bool
-    requires { (n ≤ 8194) × Noted (part_size (words prefix.now) (listed held.now n)) sizes.old }
-    ensures { result ≡ all (copy_fits (words prefix.now) (stands_in values.now map.now)
-        (annotation_in values.now map.now) (listed held.now n)) (list_in proof.now l) }
+fn copies_fit(sizes: &mut [u16], view: View, least: &Least) -> bool
+    requires { (least.now.count ≤ 8194) × Noted (part_size (words view) (items_of least.now)) sizes.old }
+    ensures { result ≡ all (copy_fits (words view.entry) (stands_in view.entry) (annotation_in view.entry) (items_of least.now)) (line_in view.entry) }
 {
-    let mut last = map.len();
+    let mut last = view.map.len();
     let mut long: usize = 0;
-    let mut i = l;
-    loop {
-        let x = read::code(proof, i);
-        if x == 0 {
-            return true;
-        }
-        let a = copies::annotation_at(values, map, x / 2);
-        long = length_next(map, last, long, a);
+    for x in view.codes() {
+        let p = x as usize / 2;
+        let a = view.annotation_at(p);
+        long = length_next(view.map, last, long, a);
         last = a;
-        let e = copies::stands(values, map, x / 2);
-        if is_part(sizes, prefix, held, n, e, long) {
-            i += 1;
-        } else {
+        if !is_part(sizes, view, least, view.stands(p), long) {
             return false;
         }
     }
+    true
 }
 
 // The same, and t has no literal together with its negation. In a line of few literals nothing is noted, since a small array is soon cleared.
-fn fit_least(
-    prefix: &[i32],
-    values: &[i32],
-    map: &[i32],
-    proof: &[i32],
-    l: usize,
-    size: usize,
-    seen: &[u8],
-    held: &[u16],
-    n: usize,
-) -> bool
-    requires { n ≤ 8194 }
-    ensures { Held seen.now held.now n → result ≡ cond (apart (listed held.now n))
-        (all (copy_fits (words prefix.now) (stands_in values.now map.now)
-        (annotation_in values.now map.now) (listed held.now n)) (list_in proof.now l)) false }
+fn fit_least(view: View, size: usize, least: &Least) -> bool
+    requires { least.now.count ≤ 8194 }
+    ensures { HeldIn least.now → result ≡ cond (apart (items_of least.now))
+        (all (copy_fits (words view.entry) (stands_in view.entry) (annotation_in view.entry) (items_of least.now)) (line_in view.entry)) false }
 {
-    if least::one_signed(seen, held, n) {
+    if least.one_signed() {
         if size < LONG {
             let mut none = [0u16; 1];
-            return copies_fit(&mut none, prefix, values, map, proof, l, held, n);
+            return copies_fit(&mut none, view, least);
         }
         let mut sizes = [0u16; VARIABLES];
-        return copies_fit(&mut sizes, prefix, values, map, proof, l, held, n);
+        return copies_fit(&mut sizes, view, least);
     }
     false
 }
@@ -164,11 +108,7 @@ fn fit_least(
 // The line's copies are annotated by one assignment that makes the clause's universal literals false. The arrays are lent: `seen` without a
 // mark, and left so. How many literals the line has, `size`, decides the way and not the answer.
 pub fn annotations_fit(
-    prefix: &[i32],
-    values: &[i32],
-    map: &[i32],
-    proof: &[i32],
-    l: usize,
+    view: View,
     size: usize,
     matrix: &[i32],
     c: usize,
@@ -176,13 +116,18 @@ pub fn annotations_fit(
     held: &mut [u16],
 ) -> bool
     ensures { Unmarked seen.old → 8194 ≤ length held.old
-        → (result ≡ annotations_fit (words prefix.now) (stands_in values.now map.now)
-        (annotation_in values.now map.now) (list_in proof.now l) (list_in matrix.now c))
+        → (result ≡ annotations_fit (words view.entry) (stands_in view.entry)
+        (annotation_in view.entry) (line_in view.entry) (list_in matrix.now c))
         × Unmarked seen.new }
 {
-    let k = least::join_negations(seen, held, 0, prefix, matrix, c);
-    let n = least::join_annotations(seen, held, k, values, map, proof, l);
-    let r = fit_least(prefix, values, map, proof, l, size, seen, held, n);
-    least::take_back(seen, held, n);
-    r
+    let mut least = Least {
+        seen,
+        held,
+        count: 0,
+    };
+    least.join_negations(view, matrix, c);
+    least.join_annotations(view);
+    let fits = fit_least(view, size, &least);
+    least.take_back();
+    fits
 }

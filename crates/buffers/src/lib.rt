@@ -1,73 +1,55 @@
 // A list of a line that is read once: the pass that measures it keeps its codes in a buffer, and they are stored from there.
 #![tactic(auto)]
 
-ghost use Rattle.std.specs.Prelude.{◌≡◌, ◌+◌, ◌≤◌, ◌<◌, length, set};
+ghost use Rattle.std.specs.Prelude.{◌≡◌, ◌+◌, ◌≤◌, length, map};
 ghost use Rattle.std.proofs.lemmas.List.Edits.{sets};
 ghost use Rattle.lines.specs.Scan.{literal_at};
 ghost use Rattle.lists.specs.Lists.{listed_at};
 ghost use Rattle.lists.specs.Stores.{codes_at, puts};
-ghost use Rattle.buffers.specs.Buffers.{first_codes, StoresLine};
+ghost use Rattle.buffers.specs.Buffers.{as_stored, StoresLine};
 
-use cells::larger;
 use clauses::Store;
-use lines::{Literal, Plain};
-use lists::{Ending, Listed};
+use lists::Measure;
+use rules::Rule;
 
 // A place of a table below this, and as many more, are added without loss.
 const PLACES: usize = 1073741824;
 
-// A code beyond the buffer is dropped.
-fn keep(buffer: &mut [u32], k: usize, x: u32)
-    ensures { buffer.new ≡ set buffer.old k x }
-{
-    if k < buffer.len() {
-        buffer[k] = x;
-    }
-}
-
 // The next token, as `lines::literal_at` reads it. Most tokens are plain, and the walk for those is short enough to be compiled into the loop below.
-fn token(line: &[u8], at: usize) -> Literal
+fn token(line: &[u8], at: usize) -> Option<(u32, usize)>
     ensures { result ≡ literal_at line.now at }
 {
-    if let Plain::Of(x, e) = lines::plain_at(line, at) {
-        return Literal::Of(x, e);
+    if let Some((x, e)) = lines::plain_at(line, at) {
+        return Some((x, e));
     }
     lines::literal_at(line, at)
 }
 
 // As `lists::list_at`; and the codes of the list and of its zero are in the buffer, as far as it goes.
-pub fn list_at(line: &[u8], at: usize, buffer: &mut [u32]) -> Listed
+pub fn list_at(line: &[u8], at: usize, buffer: &mut [u32]) -> Option<(Measure, usize)>
     ensures { (result ≡ listed_at line.now at)
         × (buffer.new ≡ sets buffer.old 0 (codes_at line.now at)) }
 {
+    let mut measure = Measure::none();
     let mut i = at;
-    let mut s: u32 = 0;
-    let mut n: usize = 0;
-    let mut m: u32 = 0;
-    loop {
-        let Literal::Of(x, e) = token(line, i) else {
-            return Listed::Bad;
-        };
-        keep(buffer, n, x);
+    while let Some((x, e)) = token(line, i) {
+        cells::set_at(buffer, measure.count, x);
         if x == 0 {
-            return Listed::Good(s, n, m, e);
+            return Some((measure, e));
         }
-        s = larger(s, x % 2);
-        m = larger(m, x / 2);
-        n += 1;
+        measure = measure.with(x);
         i = e;
     }
+    None
 }
 
-// The first n + 1 codes of the buffer, from place `from` of the table on.
-fn copy(buffer: &[u32], n: usize, table: &mut [i32], from: usize)
-    requires { (n < length buffer.now) × (from ≤ 1073741824) × (length buffer.now ≤ 1073741824) }
-    ensures { table.new ≡ puts table.old from (first_codes (n + 1) buffer.now) }
+// Codes in a table from a place on.
+fn copy(codes: &[u32], table: &mut [i32], from: usize)
+    requires { (from ≤ 1073741824) × (length codes.now ≤ 1073741824) }
+    ensures { table.new ≡ puts table.old from (map as_stored codes.now) }
 {
-    let mut k = 0;
-    while k <= n {
-        cells::put(table, from + k, buffer[k]);
-        k += 1;
+    for (k, x) in codes.iter().enumerate() {
+        cells::put(table, from + k, *x);
     }
 }
 
@@ -79,17 +61,13 @@ pub fn store_line(
     buffer: &[u32],
     table: &mut [i32],
     s: Store,
-) -> Ending
+) -> Result<(), Rule>
     ensures { StoresLine line.now at n buffer.now table.old s result table.new }
 {
     let from = clauses::written(s);
-    if n < buffer.len() {
-        if buffer.len() <= PLACES {
-            if from <= PLACES {
-                copy(buffer, n, table, from);
-                return Ending::Zero;
-            }
-        }
+    if n < buffer.len() && buffer.len() <= PLACES && from <= PLACES {
+        copy(&buffer[..=n], table, from);
+        return Ok(());
     }
     clauses::store_line(line, at, table, s)
 }

@@ -1,6 +1,6 @@
 -- Laws of reading and writing a place, stated once for all six tables. Assumes nothing.
 use mathlib.Core.Path.{◌≡◌, refl, ap, sym, ◌∙◌}
-use mathlib.Core.List.{List, [], ◌∷◌}
+use mathlib.Core.List.{List, [], ◌∷◌, ◌++◌}
 use mathlib.Core.Bool.{Bool, true, false, cond}
 use mathlib.Core.Logic.{◌≢◌}
 use Prim.Native.Nat.{ℕ, zero, suc, ◌<◌, ◌≤◌, ◌+◌, ◌-◌, ◌%◌}
@@ -107,6 +107,39 @@ module _ (t : List ℤ) (i : ℕ) where
       go false l =
           ap up_to (here (leb-false (length t) i l))
           ∙ ap (λ b. cond b [] (code_at t i ∷ up_to (drop (i + 1) (codes_of t)))) (ne_eqb (code_at t i) 0 e)
+
+-- what is not 0 stands in the table
+pub in_table : (t : List ℤ) (i : ℕ) → (code_at t i ≡ 0 → ⊥) → i < length t
+unfolding code_at
+in_table t i e = go (leb (length t) i) refl
+  where
+    go : (b : Bool) → leb (length t) i ≡ b → i < length t
+    go true l = absurd (e (ap (λ n. n % 65536) (sym (at_past t i (leb-true (length t) i l)))))
+    go false l = leb-false (length t) i l
+
+pub code_small : (t : List ℤ) (i : ℕ) → code_at t i < 65536
+unfolding code_at
+code_small t i = omega arith
+
+-- the first code of a list: what stands at the place, not 0 and below 65536; the others are the list after it
+pub first_code : (t : List ℤ) (i x : ℕ) (xs : List ℕ) → list_at t i ≡ x ∷ xs → (x ≡ code_at t i) × (0 < x) × (x < 65536) × (xs ≡ list_at t (i + 1))
+first_code t i x xs e = go (code_at t i) refl
+  where
+    go : (n : ℕ) → code_at t i ≡ n → (x ≡ code_at t i) × (0 < x) × (x < 65536) × (xs ≡ list_at t (i + 1))
+    go zero z = let l = list_end t i z in cc
+    go (suc n) z =
+        let l = list_more t i (λ e. let w = z in omega arith) in
+        let h : x ≡ code_at t i = cc in
+        let k = code_small t i in
+        (h, omega arith, omega arith, cc)
+
+-- a code of a list, and the list after it, where some stand before
+pub code_after : (t : List ℤ) (i : ℕ) (ys : List ℕ) (x : ℕ) (xs : List ℕ) → list_at t i ≡ ys ++ x ∷ xs → (x ≡ code_at t (i + length ys)) × (xs ≡ list_at t (i + length ys + 1))
+code_after t i [] x xs e = let h = first_code t i x xs e in let z : i + 0 ≡ i = omega arith in rw z (h.0, h.3)
+code_after t i (y ∷ ys) x xs e =
+    let h = first_code t i y (ys ++ x ∷ xs) e in
+    let z : i + suc (length ys) ≡ i + 1 + length ys = omega arith in
+    rw z (code_after t (i + 1) ys x xs (sym h.3))
 
 -- FRAMES
 pub kept_self : (n : ℕ) (t : List ℤ) → Kept n t t

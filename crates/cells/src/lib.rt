@@ -1,15 +1,10 @@
 // The places of a table of 32-bit signed numbers, read and written as natural numbers.
 #![tactic(auto)]
 
-ghost use Rattle.std.specs.Prelude.{◌≡◌, ◌%◌, ◌<◌, max, set, pos};
-ghost use Rattle.cells.specs.Cells.{cell_at, code_at};
-
-// A number as an index.
-pub fn wide(x: u32) -> usize
-    ensures { (result ≡ x) × (result < 4294967296) }
-{
-    x as usize
-}
+ghost use Rattle.std.specs.Prelude.{◌≡◌, ◌%◌, ◌<◌, set, pos};
+ghost use Rattle.std.specs.Iterator.{YieldsFirst, item_count};
+ghost use Rattle.cells.specs.Cells.{cell_at, code_at, list_at};
+ghost use Rattle.cells.specs.Codes.{codes_table, codes_place, codes_left};
 
 // The number at a place: 0 for a negative one, and past the end.
 pub fn cell(t: &[i32], i: usize) -> u32
@@ -28,9 +23,7 @@ pub fn cell(t: &[i32], i: usize) -> u32
 pub fn put(t: &mut [i32], i: usize, v: u32)
     ensures { t.new ≡ set t.old i (pos (v % 2147483648)) }
 {
-    if i < t.len() {
-        t[i] = (v % 2147483648) as i32;
-    }
+    set_at(t, i, (v % 2147483648) as i32);
 }
 
 // The code of a literal at a place: the number there modulo 65536, above every code that is stored.
@@ -40,12 +33,45 @@ pub fn code(t: &[i32], i: usize) -> u32
     cell(t, i) % 65536
 }
 
-// The larger of two numbers.
-pub fn larger(a: u32, b: u32) -> u32
-    ensures { result ≡ max a b }
+// Stores a value at a place; nothing past the end.
+pub fn set_at<T: Copy>(s: &mut [T], i: usize, x: T)
+    ensures { s.new ≡ set s.old i x }
 {
-    if a < b {
-        return b;
+    if i < s.len() {
+        s[i] = x;
     }
-    a
+}
+
+// The codes of a table from a place on, up to a 0 or the table's end.
+#[derive(Clone, Copy)]
+pub struct Codes<'a> {
+    table: &'a [i32],
+    place: usize,
+}
+
+impl<'a> Codes<'a> {
+    pub fn new(table: &'a [i32], place: usize) -> Codes<'a>
+        ensures left { codes_left result ≡ list_at table.now place }
+        ensures from { (codes_table result ≡ table.now) × (codes_place result ≡ place) }
+    {
+        Codes { table, place }
+    }
+}
+
+impl<'a> Iterator for Codes<'a> {
+    type Item = u32;
+
+    ghost next_gives = { YieldsFirst codes_left };
+
+    ghost remaining = { item_count codes_left };
+
+    fn next(&mut self) -> Option<u32> {
+        let table = self.table;
+        let x = code(table, self.place);
+        if x == 0 {
+            return None;
+        }
+        self.place += 1;
+        Some(x)
+    }
 }

@@ -3,6 +3,7 @@ use mathlib.Core.Path.{◌≡◌, refl, ap, ap₂, sym, ◌∙◌, subst}
 use mathlib.Core.Bool.{cond}
 use mathlib.Core.List.{List, [], ◌∷◌, ◌++◌, map, append_assoc, append-nil}
 use mathlib.Core.Option.{none as nothing, some}
+use Rattle.std.specs.Prelude.{Option, Some, None}
 use Prim.Native.Nat.{ℕ, suc, ◌+◌, ◌*◌, ◌-◌, ◌<◌, ◌≤◌}
 use native.Mathlib.Omega.{arith}
 use native.Mathlib.Numerals.{add-one}
@@ -15,8 +16,6 @@ use Rattle.report.specs.Fields.{seven_of}
 use Rattle.tables.specs.Tables.{Tables, lengths_of}
 use Rattle.tables.proofs.Frames.{same_lengths}
 use Rattle.tables.specs.Checked.{CheckedBy}
-use Rattle.checks.specs.declared.Ran.{Ran}
-use Rattle.checks.specs.declared.Ran.TheVariants.{With, Not}
 use Rattle.checks.specs.Runs.{Job, ferat, ferp, rules_of, range_of, Runs, none, more}
 use Rattle.checks.specs.All.{clamped, part, job_of, job_in, asked_from, asked, Entry, ran, passed, asked_by, jobs_in, reports_in, seven_in, numbers_in, over, CheckedAll}
 use Rattle.checks.specs.One.{RanAs, seven_by, Leaves, One}
@@ -100,56 +99,38 @@ partly_end {ns = ns} {now = now} {at = at} {i = i} h p = ap (sets now (at + i)) 
 
 -- THE KIND by its number
 module _ (f c : List ℕ) {t u : Tables} {r : Report} where
-  pub ran_ferat : {k : ℕ} → k ≡ 1 → CheckedBy (rules_of (ferat f c)) (range_of (ferat f c)) t r u → RanAs k f c t (With r) u
+  pub ran_ferat : {k : ℕ} → k ≡ 1 → CheckedBy (rules_of (ferat f c)) (range_of (ferat f c)) t r u → RanAs k f c t (Some r) u
   unfolding job_of
   ran_ferat {k} e h = (ferat f c, ap (λ b. cond b (some (ferat f c)) (cond (eqb k 2) (some (ferp f c)) nothing)) (eq-eqb k 1 e), h)
 
-  pub ran_ferp : {k : ℕ} → (k ≡ 1 → ⊥) → k ≡ 2 → CheckedBy (rules_of (ferp f c)) (range_of (ferp f c)) t r u → RanAs k f c t (With r) u
+  pub ran_ferp : {k : ℕ} → (k ≡ 1 → ⊥) → k ≡ 2 → CheckedBy (rules_of (ferp f c)) (range_of (ferp f c)) t r u → RanAs k f c t (Some r) u
   unfolding job_of
   ran_ferp {k} z e h =
       (ferp f c, ap₂ (λ a b. cond a (some (ferat f c)) (cond b (some (ferp f c)) nothing)) (ne_eqb k 1 z) (eq-eqb k 2 e), h)
 
-pub ran_none : (f c : List ℕ) (t : Tables) {k : ℕ} → (k ≡ 1 → ⊥) → (k ≡ 2 → ⊥) → RanAs k f c t Not t
+pub ran_none : (f c : List ℕ) (t : Tables) {k : ℕ} → (k ≡ 1 → ⊥) → (k ≡ 2 → ⊥) → RanAs k f c t None t
 unfolding job_of
 ran_none f c t {k} y z = (ap₂ (λ a b. cond a (some (ferat f c)) (cond b (some (ferp f c)) nothing)) (ne_eqb k 1 y) (ne_eqb k 2 z), refl)
 
--- the seven numbers as a part of their array, and one check with them
-seven_part : (r : Ran) {ns : List ℕ} → ns ≡ seven_by r → take 7 (drop 0 ns) ≡ seven_by r
+-- seven numbers, and one check with them
+pub seven_long : (r : Option Report) → length (seven_by r) ≡ 7
 unfolding seven_of
-seven_part (With r) e = rw e
-seven_part Not e = rw e
+seven_long (Some r) = refl
+seven_long None = refl
 
-pub seven_long : (r : Ran) {ns : List ℕ} → ns ≡ seven_by r → length (take 7 (drop 0 ns)) ≡ 7
-unfolding seven_of
-seven_long (With r) e = rw e
-seven_long Not e = rw e
+pub one : (kind : ℕ) (f c : List ℕ) {t u : Tables} {out exit ns : List ℕ} (at : ℕ) (r : Option Report) → RanAs kind f c t r u → ns ≡ seven_by r
+    → exit ≡ sets out at ns → One kind f c t out at u exit
+one kind f c {out = out} at (Some r) h e w = record { entry = ran h.0 r; asked = sym h.1; leaves = h.2; written = w ∙ ap (sets out at) e }
+one kind f c {out = out} at None h e w = record { entry = passed; asked = sym h.0; leaves = h.1; written = w ∙ ap (sets out at) e }
 
-pub one : (bytes : List ℕ) (from middle to kind : ℕ) {t u : Tables} {out exit ns : List ℕ} (at : ℕ) (r : Ran)
-    → RanAs kind (take (middle - from) (drop from bytes)) (take (to - middle) (drop middle bytes)) t r u → ns ≡ seven_by r
-    → exit ≡ sets out at (take 7 (drop 0 ns)) → One bytes from middle to kind t out at u exit
-unfolding part
-one bytes from middle to kind {out = out} at (With r) c e f =
-    record { entry = ran c.0 r; asked = sym c.1; leaves = c.2; written = f ∙ ap (sets out at) (seven_part (With r) e) }
-one bytes from middle to kind {out = out} at Not c e f =
-    record { entry = passed; asked = sym c.0; leaves = c.1; written = f ∙ ap (sets out at) (seven_part Not e) }
-
--- SO FAR: i ends and k kinds are used, the next file stands from `from` on, the next number goes to the place `at`
-pub record Going (bytes ends kinds : List ℕ) (from i k at : ℕ) (t : Tables) (out : List ℕ) (u : Tables) (now : List ℕ) : Type 0 where
+-- SO FAR: k checks are done, and the next file stands from `from` on
+pub record Going (bytes ends kinds : List ℕ) (from k : ℕ) (t : Tables) (out : List ℕ) (u : Tables) (now : List ℕ) : Type 0 where
   pub entries : List Entry
   pub start : from ≤ length bytes
   pub runs : Runs (jobs_in entries) t (reports_in entries) u
-  pub left : map asked_by entries ++ asked_from bytes kinds k from (drop i ends) ≡ asked bytes ends kinds
+  pub left : map asked_by entries ++ asked_from bytes kinds k from (drop (2 * k) ends) ≡ asked bytes ends kinds
   pub written : now ≡ over out (numbers_in entries)
-  pub place : at ≡ length (numbers_in entries)
-  pub pace : 2 * at ≡ 7 * i
-  pub count : 2 * k ≡ i
-
-module _ {bytes ends kinds : List ℕ} {from i k at : ℕ} {t u : Tables} {out now : List ℕ} where
-  pub going_lengths : Going bytes ends kinds from i k at t out u now → lengths_of u ≡ lengths_of t
-  going_lengths g = runs_lengths g.runs
-
-  pub going_out : Going bytes ends kinds from i k at t out u now → length now ≡ length out
-  going_out g = ap length g.written ∙ over_length out (numbers_in g.entries)
+  pub place : 7 * k ≡ length (numbers_in entries)
 
 -- the tables after one check more
 leaves_run : (e : Entry) {t u : Tables} → Leaves e t u → Runs (jobs_in (e ∷ [])) t (reports_in (e ∷ [])) u
@@ -157,9 +138,9 @@ leaves_run (ran j r) h = more h none
 leaves_run passed {t} {u} h = subst (λ z. Runs [] t [] z) (sym h) none
 
 module _ (bytes ends kinds : List ℕ) where
-  pub going_start : (t : Tables) (out : List ℕ) → Going bytes ends kinds 0 0 0 0 t out t out
+  pub going_start : (t : Tables) (out : List ℕ) → Going bytes ends kinds 0 0 t out t out
   unfolding numbers_in over
-  going_start t out = record { entries = []; start = omega arith; runs = none; left = refl; written = refl; place = refl; pace = refl; count = refl }
+  going_start t out = record { entries = []; start = omega arith; runs = none; left = refl; written = refl; place = refl }
 
   two : (i : ℕ) → i + 1 < length ends → drop i ends ≡ get_or ends i 0 ∷ get_or ends (i + 1) 0 ∷ drop (i + 2) ends
   two i h =
@@ -173,18 +154,21 @@ module _ (bytes ends kinds : List ℕ) where
   unfolding asked_from
   asked_next k from a b es middle to kind m e n = rw (e, m, n)
 
-  pub going_more : (from i k at middle to : ℕ) {kind : ℕ} {t u w : Tables} {out p q : List ℕ} → i + 1 < length ends
-      → middle ≡ clamped from (length bytes) (get_or ends i 0) → to ≡ clamped middle (length bytes) (get_or ends (i + 1) 0) → kind ≡ get_or kinds k 0
-      → Going bytes ends kinds from i k at t out u p → One bytes from middle to kind u p at w q → Going bytes ends kinds to (i + 2) (k + 1) (at + 7) t out w q
-  unfolding numbers_in
-  going_more from i k at middle to {kind} {out = out} {p = p} {q = q} h m e n g c =
+  pub going_more : (from k middle to : ℕ) {kind : ℕ} {t u w : Tables} {out p q : List ℕ} → 2 * k + 1 < length ends
+      → middle ≡ clamped from (length bytes) (get_or ends (2 * k) 0) → to ≡ clamped middle (length bytes) (get_or ends (2 * k + 1) 0) → kind ≡ get_or kinds k 0
+      → Going bytes ends kinds from k t out u p → One kind (take (middle - from) (drop from bytes)) (take (to - middle) (drop middle bytes)) u p (7 * k) w q
+      → Going bytes ends kinds to (k + 1) t out w q
+  unfolding numbers_in part
+  going_more from k middle to {kind} {out = out} {p = p} {q = q} h m e n g c =
       let ns = numbers_in g.entries in
       let s = seven_in c.entry in
       let both : numbers_in (g.entries ++ (c.entry ∷ [])) ≡ ns ++ s = numbers_then g.entries (c.entry ∷ []) ∙ ap (λ l. ns ++ l) (append-nil s) in
-      let rest = asked_from bytes kinds (k + 1) to (drop (i + 2) ends) in
-      let next : asked_from bytes kinds k from (drop i ends) ≡ asked_by c.entry ∷ rest
-      = ap (asked_from bytes kinds k from) (two i h) ∙ asked_next k from (get_or ends i 0) (get_or ends (i + 1) 0) (drop (i + 2) ends) middle to kind m e n
-      ∙ ap (λ j. j ∷ rest) (sym c.asked) in
+      let i : 2 * (k + 1) ≡ 2 * k + 2 = omega arith in
+      let rest = asked_from bytes kinds (k + 1) to (drop (2 * (k + 1)) ends) in
+      let next : asked_from bytes kinds k from (drop (2 * k) ends) ≡ asked_by c.entry ∷ rest
+      = ap (asked_from bytes kinds k from) (two (2 * k) h)
+      ∙ asked_next k from (get_or ends (2 * k) 0) (get_or ends (2 * k + 1) 0) (drop (2 * k + 2) ends) middle to kind m e n
+      ∙ ap (λ j. job_in bytes from middle to kind ∷ asked_from bytes kinds (k + 1) to (drop j ends)) (sym i) ∙ ap (λ j. j ∷ rest) (sym c.asked) in
       record {
         entries = g.entries ++ (c.entry ∷ []);
         start = omega (arith, g.start);
@@ -192,20 +176,18 @@ module _ (bytes ends kinds : List ℕ) where
         left =
             ap (λ l. l ++ rest) (asked_then g.entries (c.entry ∷ [])) ∙ append_assoc (map asked_by g.entries) (asked_by c.entry ∷ []) rest
             ∙ ap (λ l. map asked_by g.entries ++ l) (sym next) ∙ g.left;
-        written = c.written ∙ ap (λ l. sets l at s) g.written ∙ ap (λ k. sets (over out ns) k s) g.place ∙ over_then out ns s ∙ ap (over out) (sym both);
+        written = c.written ∙ ap (λ l. sets l (7 * k) s) g.written ∙ ap (λ k. sets (over out ns) k s) g.place ∙ over_then out ns s ∙ ap (over out) (sym both);
         place = omega (arith, g.place, ap length both, length-append ns s, seven_numbers c.entry);
-        pace = omega (arith, g.pace);
-        count = omega (arith, g.count);
       }
 
-  pub going_end : {from i k at : ℕ} {t u : Tables} {out p : List ℕ} → length ends ≤ i + 1 → Going bytes ends kinds from i k at t out u p
+  pub going_end : {from k : ℕ} {t u : Tables} {out p : List ℕ} → length ends ≤ 2 * k + 1 → Going bytes ends kinds from k t out u p
       → CheckedAll bytes ends kinds t out u p
   unfolding asked_from
-  going_end {from} {i} {k} h g = record {
+  going_end {from} {k} h g = record {
     entries = g.entries;
     checks =
         sym (append-nil (map asked_by g.entries))
-        ∙ ap (λ l. map asked_by g.entries ++ l) (sym (short (drop i ends) (rw (length-drop i ends) (omega arith)))) ∙ g.left;
+        ∙ ap (λ l. map asked_by g.entries ++ l) (sym (short (drop (2 * k) ends) (rw (length-drop (2 * k) ends) (omega arith)))) ∙ g.left;
     runs = g.runs;
     written = g.written;
     demanded = demand_3 g.runs;

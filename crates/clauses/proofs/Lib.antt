@@ -1,5 +1,5 @@
 -- Laws of crate clauses.
-pub mod CursorLaws
+pub mod LiteralLaws
 pub mod StandingLaws
 pub mod StoreLaws
 pub mod MemberLaws

@@ -1,28 +1,15 @@
 -- Members of a clause, as codes and as literals of the rules. Assumes nothing.
 use mathlib.Core.Path.{◌≡◌, refl, ◌∙◌, ap, ap₂}
-use mathlib.Core.Bool.{true, false, ◌||◌}
+use mathlib.Core.Bool.{◌||◌}
 use mathlib.Core.List.Memᴰ
 use mathlib.Core.List.{List, [], ◌∷◌, map}
 use Prim.Native.Nat.{ℕ}
 use lib.Dec.{eqb}
-use borrow.Author.Tests.{eq-eqb, ne_eqb}
 use Rattle.rules.specs.Basics.{is_in}
 use Rattle.rules.specs.Literals.{same, holds}
 use Rattle.rules.specs.Codes.{lit_of}
 use Rattle.rules.proofs.Kit.{either, In}
 use Rattle.rules.proofs.CodesLaw.{code_lit, same_code}
-
--- MEMBERSHIP, where a clause is read
-module _ (l : ℕ) (rest : List ℕ) where
-  pub in_end : rest ≡ [] → is_in rest l ≡ false
-  in_end e = ap (λ (x : List ℕ). is_in x l) e
-
-  module _ (m : ℕ) (rest' : List ℕ) (e : rest ≡ m ∷ rest') where
-    pub in_here : l ≡ m → is_in rest l ≡ true
-    in_here q = ap (λ (x : List ℕ). is_in x l) e ∙ ap (λ b. b || is_in rest' l) (eq-eqb l m q)
-
-    pub in_later : (l ≡ m → ⊥) → is_in rest l ≡ is_in rest' l
-    in_later n = ap (λ (x : List ℕ). is_in x l) e ∙ ap (λ b. b || is_in rest' l) (ne_eqb l m n)
 
 -- MEMBERS OF A MAPPED LIST
 module _ {A B : Type 0} (g : A → B) where

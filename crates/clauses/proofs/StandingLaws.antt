@@ -1,6 +1,6 @@
 -- Laws of the list of standing clauses, place by place. Assumes nothing.
 use mathlib.Core.Path.{◌≡◌, refl, sym, ◌∙◌, ap, ap₂, subst}
-use mathlib.Core.Bool.{Bool, true, false, not, cond, ◌||◌, ◌&&◌}
+use mathlib.Core.Bool.{Bool, true, false, not, cond, ◌||◌}
 use mathlib.Core.List.Memᴰ
 use mathlib.Core.List.{List, [], ◌∷◌, ◌++◌, map, append-nil}
 use Prim.Native.Nat.{ℕ, zero, suc, ◌+◌, ◌-◌, ◌/◌, ◌%◌, ◌<◌, ◌≤◌}
@@ -18,10 +18,8 @@ use Rattle.rules.specs.Literals.{Lits}
 use Rattle.rules.specs.Codes.{code_of, lit_of}
 use Rattle.rules.proofs.CodesLaw.{lits_codes}
 use Rattle.rules.proofs.Kit.{In, either, clear, by_yes, in_any, any_in, or_fl, or_fr, and_l, and_r, and_i}
-use Rattle.clauses.specs.declared.Cursor.{Cursor}
 use Rattle.clauses.specs.declared.Store.{Store}
-use Rattle.clauses.specs.Standing.{stands, NoneIn, clause_at, standing, literals, literals_from, literal_at, next, places_of, marks_need, removed, empty_at, has_empty, Filled}
-use Rattle.clauses.proofs.CursorLaws.{read_end, read_more}
+use Rattle.clauses.specs.Standing.{stands, NoneIn, clause_at, standing, literals, places_of, marks_need, removed, empty_at, has_empty, Filled}
 
 -- THE CLAUSES BY THEIR PLACES
 module _ (t ms : List ℤ) where
@@ -117,18 +115,6 @@ module _ (t ms : List ℤ) (n : ℕ) where
       let k = standing_out t ms n m.0 m.1 in
       h k.0 k.1 (and_i (stands t ms k.0) (is_empty (clause_at t ms k.0)) k.2
       (ap is_empty (sym k.3) ∙ sym (empty_lits m.0) ∙ ap is_empty (sym m.2) ∙ s.2)))
-
-module _ (t ms : List ℤ) (k : ℕ) where
-  pub empty_off : stands t ms k ≡ false → false ≡ empty_at t ms k
-  empty_off e = sym (ap (λ b. b && is_empty (clause_at t ms k)) e)
-
-  -- its first literal is read
-  pub empty_on : stands t ms k ≡ true → (c : Cursor) (l : ℕ) → literals_from t c ≡ clause_at t ms k → l ≡ literal_at t c → eqb l 0 ≡ empty_at t ms k
-  empty_on e c l q h = sym (ap (λ b. b && is_empty (clause_at t ms k)) e ∙ ap is_empty (sym q) ∙ go (eqb l 0) refl)
-    where
-      go : (b : Bool) → eqb l 0 ≡ b → is_empty (literals_from t c) ≡ b
-      go true z = ap is_empty (read_end t c l h (eqb-true l 0 z))
-      go false z = ap is_empty (read_more t c l h (eqb-false l 0 z) {d = next t c} refl)
 
 -- OTHER MARKS
 pub standing_marks : (t ms ms' : List ℤ) (n : ℕ) → ((k : ℕ) → k < n → cell_at ms' k ≡ cell_at ms k) → standing t ms' n ≡ standing t ms n

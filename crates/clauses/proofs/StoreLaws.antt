@@ -20,7 +20,7 @@ use Rattle.lists.proofs.ListLaws.{Listing}
 use Rattle.lists.proofs.StoreLaws.{Stored, list_in_table}
 use Rattle.clauses.specs.declared.Store.{Store}
 use Rattle.clauses.specs.Standing.{stands, clause_at, standing, places_of, proof_need, marks_need, empty_above, grown, pending, stored, room_for, Filled, Pended, Stood}
-use Rattle.clauses.proofs.CursorLaws.{pending_at}
+use Rattle.clauses.proofs.LiteralLaws.{pending_at}
 use Rattle.clauses.proofs.StandingLaws.{standing_none, standing_marks}
 
 -- NEEDS
@@ -138,7 +138,7 @@ module _ (t t' ms : List ℤ) (used : ℕ) (same : (j : ℕ) → j < used → co
       (ap (λ (c : List ℕ). cond (not (eqb (cell_at ms n % 2) 0)) (c ∷ []) []) (list_kept z (cell_at ms n / 2) (f n (omega arith))))
 
 -- A LINE'S LITERALS ARE STORED
-pub pended : {bs : List ℕ} {at g n m e : ℕ} → Listing bs at g n m e → (t u ms : List ℤ) (s : Store) → m ≤ 16384 → proof_need (grown s n) ≤ length t
+pub pended : {bs : List ℕ} {at : ℕ} {g : Bool} {n m e : ℕ} → Listing bs at g n m e → (t u ms : List ℤ) (s : Store) → m ≤ 16384 → proof_need (grown s n) ≤ length t
     → u ≡ stored bs at s t → Filled t ms s → Pended t u ms s n (lits_at bs at)
 unfolding proof_need grown stored places_of
 pended {bs} {at} {g} {n} {m} {e} o t u ms s h room q f =

@@ -1,12 +1,12 @@
 -- How clauses stand in the proof and marks tables, and the list of the standing ones. Assumes nothing.
-use Rattle.std.specs.Prelude.{◌≡◌, Bool, false, not, cond, ◌&&◌, List, [], ◌∷◌, ◌++◌, map, ℕ, zero, suc, ◌+◌, ◌-◌, ◌/◌, ◌%◌, ◌<◌, ◌≤◌, eqb, leb, ltb, ℤ, pos, length, set, take}
+use Rattle.std.specs.Prelude.{◌≡◌, Bool, false, not, cond, ◌&&◌, List, [], ◌∷◌, ◌++◌, map, ℕ, zero, suc, ◌+◌, ◌-◌, ◌/◌, ◌%◌, ◌<◌, ◌≤◌, eqb, leb, ℤ, pos, length, set, take}
 use Rattle.lines.specs.Lists.{any, is_empty}
 use Rattle.cells.specs.Cells.{cell_at, code_at, list_at, Kept}
 use Rattle.rules.specs.Literals.{Lits}
 use Rattle.rules.specs.Codes.{code_of, lit_of}
 use Rattle.lists.specs.Stores.{codes_at, puts}
 use Rattle.clauses.specs.declared.Store.{Store}
-use Rattle.clauses.specs.declared.Cursor.{Cursor}
+use Rattle.clauses.specs.declared.Standing.{Standing}
 
 -- A CLAUSE BY ITS PLACE. The clause at place k is the codes of its literals in the proof table, from some place on up to a 0. Mark k holds twice
 -- that place, and 1 more if the clause stands.
@@ -29,19 +29,6 @@ NoneIn t ms k n = (j : ℕ) → k ≤ j → j < n → stands t ms j ≡ false
 abbrev pub literals : List (List ℕ) → List Lits
 literals S = map (map lit_of) S
 
--- LITERAL BY LITERAL: the codes from a cursor on; the first of them, 0 if there is none; the cursor after it; the places that may be left
-unfoldable pub literals_from : List ℤ → Cursor → List ℕ
-literals_from t c = list_at t c.at
-
-unfoldable pub literal_at : List ℤ → Cursor → ℕ
-literal_at t c = code_at t c.at
-
-unfoldable pub next : List ℤ → Cursor → Cursor
-next t c = record { at = cond (ltb c.at (length t)) (c.at + 1) c.at }
-
-unfoldable pub left : List ℤ → Cursor → ℕ
-left t c = length t - c.at
-
 -- THE STORE: the clauses have the places below this
 unfoldable pub places_of : Store → ℕ
 places_of s = s.count
@@ -62,11 +49,8 @@ unfoldable pub grown : Store → ℕ → Store
 grown s n = record { used = s.used + n + 1; count = s.count + 1 }
 
 -- the clause that was stored last and does not stand yet
-unfoldable pub pending_from : Store → Cursor
-pending_from s = record { at = s.used }
-
-abbrev pub pending : List ℤ → Store → List ℕ
-pending t s = literals_from t (pending_from s)
+unfoldable pub pending : List ℤ → Store → List ℕ
+pending t s = list_at t s.used
 
 -- where its codes stand in the proof table, one in a place, up to a 0
 unfoldable pub written_at : Store → ℕ
@@ -118,14 +102,14 @@ abbrev pub empty_at : List ℤ → List ℤ → ℕ → Bool
 empty_at t ms k = stands t ms k && is_empty (clause_at t ms k)
 
 -- AS CONTRACTS NAME THEM
-abbrev pub stands_in : List ℤ → List ℤ → ℕ → Bool
-stands_in t ms k = stands t ms k
+abbrev pub standing_of : Standing → List (List ℕ)
+standing_of s = standing s.proof.now s.marks.now s.count
 
-abbrev pub clause_in : List ℤ → List ℤ → ℕ → List ℕ
-clause_in t ms k = clause_at t ms k
+abbrev pub stands_at : Standing → ℕ → Bool
+stands_at s k = stands s.proof.now s.marks.now k
 
-abbrev pub standing_in : List ℤ → List ℤ → ℕ → List (List ℕ)
-standing_in t ms n = standing t ms n
+abbrev pub clause_of : Standing → ℕ → List ℕ
+clause_of s k = clause_at s.proof.now s.marks.now k
 
-abbrev pub literals_in : List ℤ → Cursor → List ℕ
-literals_in t c = literals_from t c
+abbrev pub empty_of : Standing → ℕ → Bool
+empty_of s k = empty_at s.proof.now s.marks.now k

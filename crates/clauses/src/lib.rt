@@ -4,12 +4,12 @@
 ghost use Rattle.std.specs.Prelude.{◌≡◌, [], ◌+◌, ◌<◌};
 ghost use Rattle.rules.specs.Basics.{is_in};
 ghost use Rattle.lists.specs.Stores.{ending_at};
-ghost use Rattle.clauses.specs.Standing.{stands_in, clause_in, literals_in, literal_at, next};
-ghost use Rattle.clauses.specs.Standing.{standing_in, empty_at, has_empty};
-ghost use Rattle.clauses.specs.Standing.{places_of, empty_above, pending_from, written_at, room_for, stored, removed, StandsNow};
+ghost use Rattle.cells.specs.Codes.{codes_left};
+ghost use Rattle.clauses.specs.Standing.{standing_of, stands_at, clause_of, empty_of, has_empty};
+ghost use Rattle.clauses.specs.Standing.{places_of, empty_above, pending, written_at, room_for, stored, removed, StandsNow};
 
-use cells::{cell, code, put, wide};
-use lists::Ending;
+use cells::{Codes, cell, put};
+use rules::Rule;
 
 // The places of the proof table in use, and the number of clauses stored.
 #[derive(Clone, Copy)]
@@ -18,10 +18,51 @@ pub struct Store {
     pub count: usize,
 }
 
-// Where in a clause one reads.
+// The tables in which the clauses stand, those at the places below count.
 #[derive(Clone, Copy)]
-pub struct Cursor {
-    pub at: usize,
+pub struct Standing<'a> {
+    pub proof: &'a [i32],
+    pub marks: &'a [i32],
+    pub count: usize,
+}
+
+impl<'a> Standing<'a> {
+    // Whether a clause stands at place k.
+    pub fn stands(self, k: usize) -> bool
+        ensures { result ≡ stands_at self.entry k }
+    {
+        cell(self.marks, k) % 2 != 0
+    }
+
+    // The clause at place k.
+    pub fn clause(self, k: usize) -> Codes<'a>
+        ensures { codes_left result ≡ clause_of self.entry k }
+    {
+        let place = (cell(self.marks, k) / 2) as usize;
+        Codes::new(self.proof, place)
+    }
+
+    // Whether the clause at place k stands and is empty.
+    fn empty_at(self, k: usize) -> bool
+        ensures { result ≡ empty_of self.entry k }
+    {
+        if self.stands(k) {
+            return self.clause(k).next().is_none();
+        }
+        false
+    }
+
+    // Whether an empty clause stands.
+    pub fn empty_stands(self) -> bool
+        ensures { result ≡ has_empty (standing_of self.entry) }
+    {
+        for k in 0..self.count {
+            if self.empty_at(k) {
+                return true;
+            }
+        }
+        false
+    }
 }
 
 // An empty store above the first n places of the proof table.
@@ -38,61 +79,23 @@ pub fn places(s: Store) -> usize
     s.count
 }
 
-// Whether a clause stands at place k.
-pub fn stands(table: &[i32], marks: &[i32], k: usize) -> bool
-    ensures { result ≡ stands_in table.now marks.now k }
-{
-    cell(marks, k) % 2 != 0
-}
-
-// The clause at place k.
-pub fn clause(table: &[i32], marks: &[i32], k: usize) -> Cursor
-    ensures { literals_in table.now result ≡ clause_in table.now marks.now k }
-{
-    Cursor {
-        at: wide(cell(marks, k) / 2),
-    }
-}
-
 // A clause without literals.
-pub fn none(table: &[i32]) -> Cursor
-    ensures { literals_in table.now result ≡ [] }
+pub fn none(table: &[i32]) -> Codes<'_>
+    ensures { codes_left result ≡ [] }
 {
-    Cursor { at: table.len() }
-}
-
-// The literal at a cursor; 0 at the clause's end.
-pub fn literal(table: &[i32], c: Cursor) -> u32
-    ensures { (result ≡ literal_at table.now c) × (result < 65536) }
-{
-    code(table, c.at)
-}
-
-// The cursor after a literal.
-pub fn after(table: &[i32], c: Cursor) -> Cursor
-    ensures { result ≡ next table.now c }
-{
-    if c.at < table.len() {
-        return Cursor { at: c.at + 1 };
-    }
-    c
+    Codes::new(table, table.len())
 }
 
 // Whether a clause holds the literal l.
-pub fn holds(table: &[i32], start: Cursor, l: u32) -> bool
-    ensures { result ≡ is_in (literals_in table.now start) l }
+pub fn holds(clause: Codes, l: u32) -> bool
+    ensures { result ≡ is_in (codes_left clause.entry) l }
 {
-    let mut i = start;
-    loop {
-        let m = literal(table, i);
-        if m == 0 {
-            return false;
-        }
-        i = after(table, i);
+    for m in clause {
         if l == m {
             return true;
         }
     }
+    false
 }
 
 // Whether a clause of n literals more has its places in tables of these lengths.
@@ -108,7 +111,7 @@ pub fn fits(s: Store, n: usize, proof: usize, marks: usize) -> bool
 }
 
 // The literals of a line from place `at` of its text on become the pending clause, which is written where the proof table is free.
-pub fn store_line(line: &[u8], at: usize, table: &mut [i32], s: Store) -> Ending
+pub fn store_line(line: &[u8], at: usize, table: &mut [i32], s: Store) -> Result<(), Rule>
     ensures { (table.new ≡ stored line.now at s table.old)
         × (result ≡ ending_at line.now at) }
 {
@@ -116,10 +119,10 @@ pub fn store_line(line: &[u8], at: usize, table: &mut [i32], s: Store) -> Ending
 }
 
 // The pending clause.
-pub fn pending(s: Store) -> Cursor
-    ensures { result ≡ pending_from s }
+pub fn pending(table: &[i32], s: Store) -> Codes<'_>
+    ensures { codes_left result ≡ pending table.now s }
 {
-    Cursor { at: s.used }
+    Codes::new(table, s.used)
 }
 
 // Where the pending clause's codes stand in the proof table, one in a place, up to a 0.
@@ -150,28 +153,4 @@ pub fn remove(marks: &mut [i32], k: usize)
 {
     let m = cell(marks, k);
     put(marks, k, m - m % 2);
-}
-
-// Whether the clause at place k stands and is empty.
-fn empty_at(table: &[i32], marks: &[i32], k: usize) -> bool
-    ensures { result ≡ empty_at table.now marks.now k }
-{
-    if stands(table, marks, k) {
-        return literal(table, clause(table, marks, k)) == 0;
-    }
-    false
-}
-
-// Whether an empty clause stands at a place below n.
-pub fn empty_stands(table: &[i32], marks: &[i32], n: usize) -> bool
-    ensures { result ≡ has_empty (standing_in table.now marks.now n) }
-{
-    let mut k = 0;
-    while k < n {
-        if empty_at(table, marks, k) {
-            return true;
-        }
-        k += 1;
-    }
-    false
 }

@@ -2,3 +2,4 @@
 pub mod Walks
 pub mod MarkLaws
 pub mod Choices
+pub mod Members

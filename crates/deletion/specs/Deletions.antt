@@ -6,7 +6,9 @@ use Rattle.rules.specs.Basics.{is_in, without_first}
 use Rattle.rules.specs.Literals.{same_set}
 use Rattle.rules.specs.Codes.{lit_of}
 use Rattle.clauses.specs.declared.Store.{Store}
-use Rattle.clauses.specs.Standing.{stands, clause_at, standing, literals, places_of, marks_need, Filled}
+use Rattle.clauses.specs.declared.Standing.{Standing}
+use Rattle.clauses.specs.Standing.{stands, NoneIn, clause_at, standing, literals, places_of, marks_need, Filled}
+use Rattle.trail.specs.declared.Trail.{Trail}
 use Rattle.trail.specs.Trail.{off, Trailed}
 
 -- The deleted clause's literals are on the trail, which is empty before, and f marks them.
@@ -38,14 +40,17 @@ pub record Deleted (c : List ℕ) (t ms ms' : List ℤ) (count : ℕ) (r : Bool)
   pub standing_then : literals (standing t ms' count) ≡ without_first (same_set (map lit_of c)) (literals (standing t ms count))
 
 -- AS CONTRACTS NAME THEM
-abbrev pub ListedIn : List ℕ → List ℕ → ℕ → Type 0
-ListedIn f t n = Listed f t n
+abbrev pub ListedIn : Trail → Type 0
+ListedIn a = Listed a.falses a.literals a.length
 
-abbrev pub list_in : List ℕ → ℕ → List ℕ
-list_in t n = take n t
+abbrev pub list_in : Trail → List ℕ
+list_in a = take a.length a.literals
 
-abbrev pub UnmarkedIn : List ℕ → List ℤ → List ℤ → ℕ → ℕ → Type 0
-UnmarkedIn f t ms k n = Unmarked f t ms k n
+abbrev pub NoneOf : Standing → ℕ → ℕ → Type 0
+NoneOf s k n = NoneIn s.proof.now s.marks.now k n
+
+abbrev pub UnmarkedIn : Trail → Standing → ℕ → ℕ → Type 0
+UnmarkedIn a s k n = Unmarked a.falses s.proof.now s.marks.now k n
 
 abbrev pub DeletedIn : List ℕ → List ℤ → List ℤ → List ℤ → ℕ → Bool → Type 0
 DeletedIn c t ms ms' count r = Deleted c t ms ms' count r

@@ -1,88 +1,79 @@
-// Deletions: the earliest standing clause of the same set. The deleted clause's literals are trail[0..n), and falses marks them: a deletion
-#![tactic(auto)]
+// Deletions: the earliest standing clause of the same set. The deleted clause's literals are on the trail, which marks them as false: a deletion
 // cuts the trail to 0 first, since what followed from the standing clauses may follow no more.
+#![tactic(auto)]
+
 ghost use Rattle.std.specs.Prelude.{◌≡◌, ◌+◌, ◌≤◌, ◌<◌, length, false, ◌&&◌};
 ghost use Rattle.lines.specs.Lists.{all};
 ghost use Rattle.rules.specs.Basics.{is_in};
-ghost use Rattle.clauses.specs.Standing.{stands_in, clause_in, literals_in, NoneIn};
+ghost use Rattle.cells.specs.Codes.{codes_left};
+ghost use Rattle.clauses.specs.Standing.{stands_at, clause_of};
 ghost use Rattle.trail.specs.Trail.{off, ReadyIn};
-ghost use Rattle.deletion.specs.Deletions.{same_as, ListedIn, list_in, MoreBy, UnmarkedIn, DeletedIn};
+ghost use Rattle.deletion.specs.Deletions.{same_as, ListedIn, list_in, MoreBy, NoneOf, UnmarkedIn, DeletedIn};
 
-use clauses::{Cursor, after, clause, holds, literal, remove, stands};
-use trail::{Falses, Trail, assume, is_off, undo, wide16};
+use cells::Codes;
+use clauses::{Standing, holds, remove};
+use trail::Trail;
 
-// One literal more of the deleted clause; the trail's length.
-pub fn list_literal(falses: &mut Falses, trail: &mut Trail, n: usize, l: u32) -> usize
-    ensures { ListedIn falses.old trail.old n → (l < 65536)
-        → ListedIn falses.new trail.new result × MoreBy l (list_in trail.old n) (list_in trail.new result) }
+// One literal more of the deleted clause.
+pub fn list_literal(trail: &mut Trail, l: u32)
+    ensures { ListedIn trail.old → (l < 65536) → ListedIn trail.new × MoreBy l (list_in trail.old) (list_in trail.new) }
 {
-    assume(falses, trail, n, l)
+    trail.assume(l);
 }
 
-// Whether falses marks every literal of a clause.
-fn all_marked(table: &[i32], start: Cursor, falses: &Falses) -> bool
-    ensures { result ≡ all (off falses.now) (literals_in table.now start) }
+// Whether the trail marks every literal of a clause.
+fn all_marked(clause: Codes, trail: &Trail) -> bool
+    ensures { result ≡ all (off trail.now.falses) (codes_left clause.entry) }
 {
-    let mut i = start;
-    loop {
-        let l = literal(table, i);
-        if l == 0 {
-            return true;
-        }
-        i = after(table, i);
-        if !is_off(falses, l) {
-            return false;
-        }
-    }
-}
-
-// Whether a clause holds each of trail[0..n).
-fn covers(table: &[i32], start: Cursor, trail: &Trail, n: usize) -> bool
-    ensures { n ≤ 65536 → length trail.now ≡ 65536
-        → result ≡ all (is_in (literals_in table.now start)) (list_in trail.now n) }
-{
-    let mut k = 0;
-    while k < n {
-        if 65536 <= k {
-            return false;
-        }
-        let l = wide16(trail[k]);
-        k += 1;
-        if !holds(table, start, l) {
+    for l in clause {
+        if !trail.is_off(l) {
             return false;
         }
     }
     true
 }
 
-fn is_same(table: &[i32], start: Cursor, falses: &Falses, trail: &Trail, n: usize) -> bool
-    ensures { ListedIn falses.now trail.now n
-        → result ≡ same_as (list_in trail.now n) (literals_in table.now start) }
+// Whether a clause holds each literal on the trail.
+fn covers(clause: Codes, trail: &Trail) -> bool
+    ensures { trail.now.length ≤ 65536 → length trail.now.literals ≡ 65536
+        → result ≡ all (is_in (codes_left clause.entry)) (list_in trail.now) }
 {
-    if all_marked(table, start, falses) {
-        return covers(table, start, trail, n);
+    for k in 0..trail.length {
+        if !holds(clause, trail.literal_at(k)) {
+            return false;
+        }
+    }
+    true
+}
+
+fn is_same(clause: Codes, trail: &Trail) -> bool
+    ensures { ListedIn trail.now → result ≡ same_as (list_in trail.now) (codes_left clause.entry) }
+{
+    if all_marked(clause, trail) {
+        return covers(clause, trail);
     }
     false
 }
 
 // Whether a clause stands at one of the four places from k on; true where fewer are left. All four are tested, which is one step of the machine.
-fn near(table: &[i32], marks: &[i32], k: usize) -> bool
-    ensures { result ≡ false → NoneIn table.now marks.now k (k + 4) }
+fn near(standing: Standing, k: usize) -> bool
+    ensures { result ≡ false → NoneOf standing.entry k (k + 4) }
 {
-    if marks.len() < 4 {
+    if standing.marks.len() < 4 {
         return true;
     }
-    if marks.len() - 4 < k {
+    if standing.marks.len() - 4 < k {
         return true;
     }
-    let low = stands(table, marks, k) | stands(table, marks, k + 1);
-    low | stands(table, marks, k + 2) | stands(table, marks, k + 3)
+    let low = standing.stands(k) | standing.stands(k + 1);
+    low | standing.stands(k + 2) | standing.stands(k + 3)
 }
 
-// Passes over places from k on at which no clause stands, four at a time and below n; where that ends.
-fn passed(table: &[i32], marks: &[i32], k: usize, n: usize) -> usize
-    ensures { (k ≤ result) × NoneIn table.now marks.now k result }
+// Passes over places from k on at which no clause stands, four at a time; where that ends.
+fn passed(standing: Standing, k: usize) -> usize
+    ensures { (k ≤ result) × NoneOf standing.entry k result }
 {
+    let n = standing.count;
     let mut j = k;
     while j < n {
         if n < 4 {
@@ -91,7 +82,7 @@ fn passed(table: &[i32], marks: &[i32], k: usize, n: usize) -> usize
         if n - 4 < j {
             return j;
         }
-        if near(table, marks, j) {
+        if near(standing, j) {
             return j;
         }
         j += 4;
@@ -99,84 +90,72 @@ fn passed(table: &[i32], marks: &[i32], k: usize, n: usize) -> usize
     j
 }
 
-// Passes over the places from k on, below count, at which no clause stands or one with a literal that falses does not mark; where that ends.
-fn candidate(table: &[i32], marks: &[i32], k: usize, count: usize, falses: &Falses) -> usize
-    ensures { (k ≤ result) × UnmarkedIn falses.now table.now marks.now k result }
+// Passes over the places from k on at which no clause stands or one with a literal that the trail does not mark; where that ends.
+fn candidate(standing: Standing, k: usize, trail: &Trail) -> usize
+    ensures { (k ≤ result) × UnmarkedIn trail.now standing.entry k result }
 {
     let mut place = k;
-    while place < count {
-        if stands(table, marks, place) {
-            if all_marked(table, clause(table, marks, place), falses) {
+    while place < standing.count {
+        if standing.stands(place) {
+            if all_marked(standing.clause(place), trail) {
                 return place;
             }
             place += 1;
         } else {
-            place = passed(table, marks, place + 1, count);
+            place = passed(standing, place + 1);
         }
     }
     place
 }
 
 // Whether a clause of the same set stands at place k.
-fn is_there(
-    table: &[i32],
-    marks: &[i32],
-    k: usize,
-    falses: &Falses,
-    trail: &Trail,
-    n: usize,
-) -> bool
-    ensures { ListedIn falses.now trail.now n
-        → result ≡ (stands_in table.now marks.now k && same_as (list_in trail.now n) (clause_in table.now marks.now k)) }
+fn is_there(standing: Standing, k: usize, trail: &Trail) -> bool
+    ensures { ListedIn trail.now
+        → result ≡ (stands_at standing.entry k && same_as (list_in trail.now) (clause_of standing.entry k)) }
 {
-    if stands(table, marks, k) {
-        return is_same(table, clause(table, marks, k), falses, trail, n);
+    if standing.stands(k) {
+        return is_same(standing.clause(k), trail);
     }
     false
 }
 
 // The earliest standing clause of the same set stands no more; whether there is one.
-fn take_earliest(
-    table: &[i32],
-    marks: &mut [i32],
-    count: usize,
-    falses: &Falses,
-    trail: &Trail,
-    n: usize,
-) -> bool
-    ensures { ListedIn falses.now trail.now n
-        → DeletedIn (list_in trail.now n) table.now marks.old marks.new count result }
+fn take_earliest(proof: &[i32], marks: &mut [i32], count: usize, trail: &Trail) -> bool
+    ensures { ListedIn trail.now → DeletedIn (list_in trail.now) proof.now marks.old marks.new count result }
 {
     let mut found = false;
-    let mut place = candidate(table, marks, 0, count, falses);
+    let standing = Standing {
+        proof,
+        marks,
+        count,
+    };
+    let mut place = candidate(standing, 0, trail);
     while place < count {
-        let k = place;
-        place += 1;
-        if is_there(table, marks, k, falses, trail, n) {
-            remove(marks, k);
+        let standing = Standing {
+            proof,
+            marks,
+            count,
+        };
+        if is_there(standing, place, trail) {
+            remove(marks, place);
             found = true;
             place = count;
         } else {
-            place = candidate(table, marks, place, count, falses);
+            place = candidate(standing, place + 1, trail);
         }
     }
     found
 }
 
 // The same, with an empty trail afterwards.
-pub fn delete(
-    table: &[i32],
-    marks: &mut [i32],
-    count: usize,
-    falses: &mut Falses,
-    trail: &Trail,
-    n: usize,
-) -> bool
-    ensures { ListedIn falses.old trail.now n
-        → DeletedIn (list_in trail.now n) table.now marks.old marks.new count result
-        × ReadyIn falses.new trail.now 0 }
+pub fn delete(proof: &[i32], marks: &mut [i32], count: usize, trail: &mut Trail) -> bool
+    ensures answer { ListedIn trail.old
+        → DeletedIn (list_in trail.old) proof.now marks.old marks.new count result
+        × ReadyIn trail.new }
+    ensures empty { trail.new.length ≡ 0 }
+    ensures kept { trail.new.literals ≡ trail.old.literals }
 {
-    let found = take_earliest(table, marks, count, falses, trail, n);
-    undo(falses, trail, n, 0);
+    let found = take_earliest(proof, marks, count, trail);
+    trail.undo(0);
     found
 }

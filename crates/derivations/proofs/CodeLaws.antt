@@ -2,30 +2,26 @@
 use mathlib.Core.Path.{◌≡◌, refl, ap, ap₂, sym, ◌∙◌}
 use mathlib.Core.Bool.{Bool, true, false, cond}
 use mathlib.Core.List.{List}
-use Prim.Native.Nat.{ℕ, ◌+◌, ◌-◌, ◌%◌, max}
+use Prim.Native.Nat.{ℕ}
 use native.Mathlib.Omega.{arith}
-use lib.Dec.{eqb}
-use lib.IntN.{ℤ}
 use lib.ListN.{length}
-use borrow.Author.Tests.{eq-eqb, ne_eqb}
+use Rattle.std.proofs.Common.{Option, Some, None}
+use Rattle.std.specs.Prelude.{Err, ok_or}
+use Rattle.rules.specs.Rule.{number}
+use Rattle.rules.specs.declared.Rule.{Rule}
+use Rattle.rules.specs.declared.Rule.TheVariants.{BadParent}
 use Rattle.copies.specs.Marks.{Unmarked}
 use Rattle.copies.proofs.Choices.{yes, no}
 use Rattle.tables.specs.Tables.{Tables}
 use Rattle.unmapped.specs.Copies.{all_mapped}
 use Rattle.expansion.specs.Codes.{expands_named}
-use Rattle.clauses.specs.declared.Store.{Store}
-use Rattle.clauses.specs.declared.Cursor.{Cursor}
-use Rattle.clauses.specs.Standing.{literals_from, pending_from, pending, written_at, clause_at, places_of, StandsNow}
-use Rattle.indexes.specs.Shown.{place_at, noted}
+use Rattle.clauses.specs.Standing.{pending, written_at, clause_at}
+use Rattle.indexes.specs.Shown.{place_at}
 use Rattle.resolvents.specs.Marks.{Clear}
 use Rattle.resolvents.specs.Resolves.{resolves}
-use Rattle.reading.specs.declared.Counts.{Counts}
 use Rattle.derivations.specs.declared.Progress.{Progress}
-use Rattle.derivations.specs.declared.Reason.{Reason}
-use Rattle.derivations.specs.declared.Reason.TheVariants.{Clause, Parents}
-use Rattle.derivations.specs.Shown.{Work}
-use Rattle.derivations.specs.Rules.{expansion_broken, by_places, parents_broken, ExpansionJudged, ParentsJudged, rule_broken, RuleJudged}
-use Rattle.derivations.specs.Judges.{counted_by, StandsAs}
+use Rattle.derivations.specs.declared.Work.{Work}
+use Rattle.derivations.specs.Rules.{expansion_broken, by_places, parents_broken, ParentsJudged}
 
 -- MARKS that are clear
 pub clear_unmarked : {s : List ℕ} → Clear s → Unmarked s
@@ -36,18 +32,18 @@ unmarked_clear e c m = record { long = e ∙ c.long; none = m.none }
 
 -- RULES 9 AND 11
 module _ (p : Progress) (n : ℕ) (t : Tables) (w : Work) where
-  module _ {c : Cursor} (i : c ≡ pending_from p.store) {b : Bool} (e : b ≡ all_mapped w.noted (literals_from t.proof c)) where
+  module _ {c : List ℕ} (i : c ≡ pending t.proof p.store) {b : Bool} (e : b ≡ all_mapped w.noted c) where
     mapped_is : b ≡ all_mapped w.noted (pending t.proof p.store)
-    mapped_is = e ∙ ap (λ z. all_mapped w.noted (literals_from t.proof z)) i
+    mapped_is = e ∙ ap (all_mapped w.noted) i
 
     pub unmapped_copy : b ≡ false → 9 ≡ expansion_broken p n t w
     unfolding expansion_broken
     unmapped_copy z = no _ _ _ (sym mapped_is ∙ z) refl
 
-    module _ (y : b ≡ true) {l k : ℕ} (h : l ≡ written_at p.store) (j : k ≡ n) {x : Bool}
-        (g : x ≡ expands_named t.prefix t.values t.map t.proof l t.matrix w.starts k) where
+    module _ (y : b ≡ true) {l : ℕ} (h : l ≡ written_at p.store) {x : Bool}
+        (g : x ≡ expands_named t.prefix t.values t.map t.proof l t.matrix w.starts n) where
       expands_is : x ≡ expands_named t.prefix t.values t.map t.proof (written_at p.store) t.matrix w.starts n
-      expands_is = g ∙ ap₂ (λ l k. expands_named t.prefix t.values t.map t.proof l t.matrix w.starts k) h j
+      expands_is = g ∙ ap (λ l. expands_named t.prefix t.values t.map t.proof l t.matrix w.starts n) h
 
       pub expansion_is : x ≡ true → 0 ≡ expansion_broken p n t w
       unfolding expansion_broken
@@ -58,51 +54,33 @@ module _ (p : Progress) (n : ℕ) (t : Tables) (w : Work) where
       no_expansion z = yes _ _ _ (sym mapped_is ∙ y) (no _ _ _ (sym expands_is ∙ z) refl)
 
 -- RULE 16
-module _ (p : Progress) (a b : ℕ) (proof marks : List ℤ) (indexes : List ℕ) {i j : ℕ} (e : i ≡ place_at indexes a) (g : j ≡ place_at indexes b) where
-  by_places_lem : by_places p proof marks i j ≡ parents_broken p a b proof marks indexes
+missing_is : {x : Option ℕ} {k : Rule} → Err k ≡ ok_or x BadParent → x ≡ None → number k ≡ 16
+missing_is {x} {k} e z = by x e z
+  where
+    by : (x : Option ℕ) → Err k ≡ ok_or x BadParent → x ≡ None → number k ≡ 16
+    by None e z = ap number (let y : k ≡ BadParent = cc in y)
+    by (Some n) e z = cc
+
+module _ (p : Progress) (a b : ℕ) (t : Tables) (w : Work) {x : Option ℕ} (e : x ≡ place_at w.indexes a) where
+  pub first_missing : {k : Rule} → Err k ≡ ok_or x BadParent → x ≡ None → number k ≡ parents_broken p a b t.proof t.marks w.indexes
   unfolding parents_broken
-  by_places_lem = ap₂ (by_places p proof marks) e g
+  first_missing h z = missing_is h z ∙ ap (λ x. by_places p t.proof t.marks x (place_at w.indexes b)) (sym z ∙ e)
 
-  pub first_missing : i ≡ 0 → 16 ≡ parents_broken p a b proof marks indexes
-  first_missing z = yes _ _ _ (eq-eqb i 0 z) refl ∙ by_places_lem
+  module _ {i : ℕ} (z : x ≡ Some i) {y : Option ℕ} (g : y ≡ place_at w.indexes b) where
+    by_places_lem : {u : Option ℕ} → y ≡ u → by_places p t.proof t.marks (Some i) u ≡ parents_broken p a b t.proof t.marks w.indexes
+    unfolding parents_broken
+    by_places_lem h = ap₂ (by_places p t.proof t.marks) (sym z ∙ e) (sym h ∙ g)
 
-  module _ (z : i ≡ 0 → ⊥) where
-    pub second_missing : j ≡ 0 → 16 ≡ parents_broken p a b proof marks indexes
-    second_missing y = no _ _ _ (ne_eqb i 0 z) (yes _ _ _ (eq-eqb j 0 y) refl) ∙ by_places_lem
+    pub second_missing : {k : Rule} → Err k ≡ ok_or y BadParent → y ≡ None → number k ≡ parents_broken p a b t.proof t.marks w.indexes
+    second_missing o h = missing_is o h ∙ by_places_lem h
 
-    module _ (y : j ≡ 0 → ⊥) (d h : Cursor) {c : Cursor} (k : c ≡ pending_from p.store) {u v : ℕ} (m : u ≡ i - 1) (n : v ≡ j - 1)
-        (first : literals_from proof d ≡ clause_at proof marks u) (second : literals_from proof h ≡ clause_at proof marks v) {seen seen' : List ℕ} {x : Bool}
-        (r : Clear seen → (x ≡ resolves (literals_from proof c) (literals_from proof d) (literals_from proof h)) × Clear seen') where
-      abbrev answer : Bool → ℕ
-      answer o = cond (eqb i 0) 16 (cond (eqb j 0) 16 (cond o 0 16))
-
-      resolves_is : Clear seen → x ≡ resolves (pending proof p.store) (clause_at proof marks (i - 1)) (clause_at proof marks (j - 1))
+    module _ {j : ℕ} (h : y ≡ Some j) {c d k : List ℕ} (l : c ≡ pending t.proof p.store)
+        (first : d ≡ clause_at t.proof t.marks i) (second : k ≡ clause_at t.proof t.marks j) {seen' : List ℕ} {o : Bool}
+        (r : Clear w.seen → (o ≡ resolves c d k) × Clear seen') where
+      resolves_is : Clear w.seen → o ≡ resolves (pending t.proof p.store) (clause_at t.proof t.marks i) (clause_at t.proof t.marks j)
       resolves_is s =
-          (r s).0 ∙ ap (λ o. resolves (literals_from proof o) (literals_from proof d) (literals_from proof h)) k
-          ∙ ap₂ (resolves (pending proof p.store)) (first ∙ ap (clause_at proof marks) m) (second ∙ ap (clause_at proof marks) n)
+          (r s).0 ∙ ap (λ c. resolves c d k) l
+          ∙ ap₂ (resolves (pending t.proof p.store)) first second
 
-      pub parents_judged : {q : ℕ} → q ≡ cond x 0 16 → ParentsJudged p a b proof marks indexes seen q seen'
-      parents_judged o s = (
-        no _ _ _ (ne_eqb i 0 z) (no _ _ _ (ne_eqb j 0 y) o) ∙ ap answer (resolves_is s) ∙ by_places_lem,
-        (r s).1,
-      )
-
--- 16, 9 OR 11
-module _ (p : Progress) (t : Tables) (w : Work) {k : ℕ} where
-  pub expansion_judged : {reason : Reason} {n : ℕ} {seen : List ℕ} → reason ≡ Clause n → ExpansionJudged p n t w k seen → RuleJudged p reason t w k seen
-  expansion_judged e h s = ((h s).0 ∙ sym (ap (λ r. rule_broken p r t w) e), (h s).1)
-
-  pub resolution_judged : {reason : Reason} {a b : ℕ} {seen : List ℕ} → reason ≡ Parents a b
-      → ParentsJudged p a b t.proof t.marks w.indexes w.seen k seen → RuleJudged p reason t w k seen
-  resolution_judged e h s = ((h s).0 ∙ sym (ap (λ r. rule_broken p r t w) e), (h s).1)
-
--- THE CLAUSE STANDS
-pub stands_as : (p : Progress) (i : ℕ) (reason : Reason) (n m : ℕ) {marks marks' : List ℤ} {indexes indexes' : List ℕ} {k l : ℕ} {c : Counts} {s : Store}
-    → k ≡ places_of p.store → l ≡ max p.mapped.largest m → c ≡ counted_by reason p.counts → StandsNow marks marks' p.store n s
-    → indexes' ≡ noted indexes i (k % 1073741824 + 1)
-    → StandsAs p i reason n m marks indexes (record { formula = p.formula; mapped = record { used = p.mapped.used; largest = l }; store = s; counts = c }) marks' indexes'
-stands_as p i reason n m {indexes = indexes} {s = s} e g h a b = record {
-  next = ap₂ (λ l c. record { formula = p.formula; mapped = record { used = p.mapped.used; largest = l }; store = s; counts = c }) g h;
-  stands = a;
-  index = b ∙ ap (λ z. noted indexes i (z % 1073741824 + 1)) e;
-}
+      pub parents_judged : {q : ℕ} → q ≡ cond o 0 16 → ParentsJudged p a b t w q seen'
+      parents_judged m s = (m ∙ ap (λ o. cond o 0 16) (resolves_is s) ∙ by_places_lem h, (r s).1)

@@ -4,3 +4,4 @@ pub mod CodeLaws
 pub mod RuleLaws
 pub mod StandLaws
 pub mod JudgeLaws
+pub mod AptLaws

@@ -2,12 +2,13 @@
 use mathlib.Core.Path.{◌≡◌, refl, ap, ap₂, sym, ◌∙◌}
 use mathlib.Core.Bool.{Bool, true, false, not, cond}
 use mathlib.Core.List.{List, [], ◌∷◌, map}
-use mathlib.Core.Option.{Option, none, some}
-use Prim.Native.Nat.{ℕ, zero, suc, ◌-◌, ◌≤◌, ◌<◌}
+use mathlib.Core.Option as rules
+use mathlib.Core.Option.{none, some}
+use Prim.Native.Nat.{ℕ, zero, suc, ◌≤◌, ◌<◌}
 use native.Mathlib.Omega.{arith}
-use lib.Dec.{eqb}
 use lib.ListN.{length, get_or, length-map}
-use borrow.Author.Tests.{ne_eqb}
+use Rattle.std.proofs.Common.{Option, Some, None}
+use Rattle.std.specs.Option.{is_some}
 use Rattle.lines.specs.Lists.{all}
 use Rattle.cells.specs.Cells.{list_at}
 use Rattle.rules.specs.Basics.{is_in}
@@ -27,7 +28,7 @@ use Rattle.copies.specs.Copies.{stands_of, annotation_at, annotation_of}
 use Rattle.expansion.specs.Codes.{expands_named}
 use Rattle.expansion.proofs.ClauseLaws.{CopiesTold, named_tested}
 use Rattle.clauses.specs.Standing.{pending, written_at, clause_at, places_of}
-use Rattle.clauses.proofs.CursorLaws.{written_there}
+use Rattle.clauses.proofs.LiteralLaws.{written_there}
 use Rattle.clauses.proofs.StandingLaws.{standing_place}
 use Rattle.indexes.specs.Shown.{place_in, place_at}
 use Rattle.indexes.proofs.IndexLaws.{not_used, used, missing, found}
@@ -37,7 +38,9 @@ use Rattle.reading.proofs.GoingLaws.{numbered}
 use Rattle.derivations.specs.declared.Progress.{Progress}
 use Rattle.derivations.specs.declared.Reason.{Reason}
 use Rattle.derivations.specs.declared.Reason.TheVariants.{Clause, Parents}
-use Rattle.derivations.specs.Shown.{Work, Shown, clauses_of}
+use Rattle.derivations.specs.declared.Derivation.{Derivation}
+use Rattle.derivations.specs.declared.Work.{Work}
+use Rattle.derivations.specs.Shown.{Shown, clauses_of}
 use Rattle.derivations.specs.Rules.{expansion_broken, by_places, parents_broken, line_broken}
 use Rattle.derivations.specs.Judges.{line_of, Named, Pending}
 
@@ -46,10 +49,7 @@ get_d_map g [] k a b l = absurd (omega arith)
 get_d_map g (x ∷ xs) zero a b l = refl
 get_d_map g (x ∷ xs) (suc k) a b l = get_d_map g xs k a b (omega arith)
 
-some_place : (x : ℕ) → eqb (suc x) 0 ≡ false
-some_place x = ne_eqb (suc x) 0 (λ z. omega (arith, z))
-
-module _ {p : Progress} {t : Tables} {w : Work} {f : Formula} {s : Derived} (sh : Shown p t w f s) {n m : ℕ} {c : Lits} (o : Pending p t n m c) where
+module _ {p : Progress} {t : Tables} {w : Work} {f : Formula} {s : Derived} (sh : Shown p t w f s) {d : Derivation} {c : Lits} (o : Pending p t d c) where
   abbrev all_copies : Bool
   all_copies = all (is_mapped s.state.mapped) (vars c)
 
@@ -93,7 +93,7 @@ module _ {p : Progress} {t : Tables} {w : Work} {f : Formula} {s : Derived} (sh 
   parents_number a b i j =
       ap₂ (by_places p t.proof t.marks) (sh.indexes.each a i) (sh.indexes.each b j) ∙ go (place_in s.indexes a) refl (place_in s.indexes b) refl
     where
-      both : (x y : ℕ) → place_in s.indexes a ≡ suc x → place_in s.indexes b ≡ suc y
+      both : (x y : ℕ) → place_in s.indexes a ≡ Some x → place_in s.indexes b ≡ Some y
           → resolves (pending t.proof p.store) (clause_at t.proof t.marks x) (clause_at t.proof t.marks y) ≡ derives c (parent s a) (parent s b)
       both x y e g =
           let d = found s.indexes s.state.standing a x sh.paired e in
@@ -103,48 +103,43 @@ module _ {p : Progress} {t : Tables} {w : Work} {f : Formula} {s : Derived} (sh 
           ∙ ap₂ (resolvent c) (sym (parent_is x d.within)) (sym (parent_is y h.within))
           ∙ ap₂ (derives c) (sym d.clause) (sym h.clause)
 
-      go : (x : ℕ) → place_in s.indexes a ≡ x → (y : ℕ) → place_in s.indexes b ≡ y
+      none_second : (z : rules.Option Lits) → ◌≡◌ {A = ℕ} (cond (derives c z none) 0 16) 16
+      none_second none = refl
+      none_second (some d) = refl
+
+      go : (x : Option ℕ) → place_in s.indexes a ≡ x → (y : Option ℕ) → place_in s.indexes b ≡ y
           → by_places p t.proof t.marks x y ≡ cond (derives c (parent s a) (parent s b)) 0 16
-      go zero e y g = sym (ap (λ z. cond (derives c z (parent s b)) 0 16) (missing s.indexes s.state.standing a e))
-      go (suc x) e zero g = ap (λ b. cond b 16 16) (some_place x) ∙ sym (ap (λ z. cond (derives c (parent s a) z) 0 16) (missing s.indexes s.state.standing b g) ∙ none_second (parent s a))
-        where
-          none_second : (z : Option Lits) → ◌≡◌ {A = ℕ} (cond (derives c z none) 0 16) 16
-          none_second none = refl
-          none_second (some d) = refl
-      go (suc x) e (suc y) g =
-          let i : suc x - 1 ≡ x = omega arith in
-          let j : suc y - 1 ≡ y = omega arith in
-          ap₂ (λ a b. cond a 16 (cond b 16 (cond (resolves (pending t.proof p.store) (clause_at t.proof t.marks (suc x - 1)) (clause_at t.proof t.marks (suc y - 1))) 0 16)))
-          (some_place x) (some_place y)
-          ∙ ap₂ (λ a b. cond (resolves (pending t.proof p.store) (clause_at t.proof t.marks a) (clause_at t.proof t.marks b)) 0 16) i j
-          ∙ ap (λ z. cond z 0 16) (both x y e g)
+      go None e y g = sym (ap (λ z. cond (derives c z (parent s b)) 0 16) (missing s.indexes s.state.standing a e))
+      go (Some x) e None g =
+          sym (ap (λ z. cond (derives c (parent s a) z) 0 16) (missing s.indexes s.state.standing b g) ∙ none_second (parent s a))
+      go (Some x) e (Some y) g = ap (λ z. cond z 0 16) (both x y e g)
 
   -- RULE 17
-  used_test : (i : ℕ) → i ≤ 65536 → eqb (place_at w.indexes i) 0 ≡ not (is_in s.indexes i)
-  used_test i l = ap (λ z. eqb z 0) (sh.indexes.each i l) ∙ go (place_in s.indexes i) refl
+  used_test : (i : ℕ) → i ≤ 65536 → is_some (place_at w.indexes i) ≡ is_in s.indexes i
+  used_test i l = ap is_some (sh.indexes.each i l) ∙ go (place_in s.indexes i) refl
     where
-      go : (x : ℕ) → place_in s.indexes i ≡ x → eqb x 0 ≡ not (is_in s.indexes i)
-      go zero e = sym (ap not (not_used s.indexes i e))
-      go (suc x) e = some_place x ∙ sym (ap not (used s.indexes i (λ z. omega (arith, z, e))))
+      go : (x : Option ℕ) → place_in s.indexes i ≡ x → is_some x ≡ is_in s.indexes i
+      go None e = sym (not_used s.indexes i e)
+      go (Some x) e = sym (used s.indexes i x e)
 
   -- ALL OF THEM, in their order
   pub kinds : (i : ℕ) (reason : Reason) → Named f i reason
       → kind_rules f (needing s (line_of i reason c)) (line_of i reason c) ≡ numbered (line_broken p i reason t w)
   unfolding kind_rules
   kinds i (Clause k) h =
-      go (not (is_in s.indexes i)) all_copies (expands f s.state.mapped c (clause_number f k))
-      ∙ sym (ap₂ (λ u x. numbered (cond u x 17)) (used_test i h.0) (expansion_number k h.1 h.2))
+      go (is_in s.indexes i) all_copies (expands f s.state.mapped c (clause_number f k))
+      ∙ sym (ap₂ (λ u x. numbered (cond u 17 x)) (used_test i h.0) (expansion_number k h.1 h.2))
     where
-      go : (u a e : Bool) → (17 unless u then 9 unless a then 11 unless e) ≡ numbered (cond u (cond a (cond e 0 11) 9) 17)
-      go true true true = refl
-      go true true false = refl
-      go true false e = refl
-      go false a e = refl
+      go : (u a e : Bool) → (17 unless not u then 9 unless a then 11 unless e) ≡ numbered (cond u 17 (cond a (cond e 0 11) 9))
+      go false true true = refl
+      go false true false = refl
+      go false false e = refl
+      go true a e = refl
   kinds i (Parents a b) h =
-      go (not (is_in s.indexes i)) (derives c (parent s a) (parent s b))
-      ∙ sym (ap₂ (λ u x. numbered (cond u x 17)) (used_test i h.0) (parents_number a b h.1 h.2))
+      go (is_in s.indexes i) (derives c (parent s a) (parent s b))
+      ∙ sym (ap₂ (λ u x. numbered (cond u 17 x)) (used_test i h.0) (parents_number a b h.1 h.2))
     where
-      go : (u d : Bool) → (17 unless u then 16 unless d) ≡ numbered (cond u (cond d 0 16) 17)
-      go true true = refl
-      go true false = refl
-      go false d = refl
+      go : (u d : Bool) → (17 unless not u then 16 unless d) ≡ numbered (cond u 17 (cond d 0 16))
+      go false true = refl
+      go false false = refl
+      go true d = refl

@@ -1,8 +1,8 @@
 -- Laws of a pending clause that stands from now on, with its index. Assumes nothing.
 use mathlib.Core.Path.{◌≡◌, refl, ap, ap₂, sym, ◌∙◌, subst}
 use mathlib.Core.Bool.{true, false}
-use mathlib.Core.List.{List, [], ◌∷◌, ◌++◌, map}
-use Prim.Native.Nat.{ℕ, ◌+◌, ◌*◌, ◌<◌, ◌≤◌, max}
+use mathlib.Core.List.{List, [], ◌∷◌, ◌++◌}
+use Prim.Native.Nat.{ℕ, ◌+◌, ◌%◌, ◌*◌, ◌<◌, ◌≤◌, max}
 use native.Mathlib.Omega.{arith}
 use lib.ListN.{length, length-append, length-map}
 use lib.IntN.{ℤ}
@@ -13,6 +13,7 @@ use Rattle.rules.specs.Formula.{Formula}
 use Rattle.rules.specs.Needs.{Places, places, fits, together}
 use Rattle.rules.specs.CertificateLines as ferat-lines
 use Rattle.rules.specs.CertificateLines.{state}
+use Rattle.ferp_rules.specs.Forms.{FerpLine}
 use Rattle.ferp_rules.specs.Lines.{Derived, derived, ferp_needs, needing, accept}
 use Rattle.tables.specs.Tables.{Tables, tables, lengths_of, KeptAll}
 use Rattle.cells.specs.Cells.{Kept}
@@ -21,6 +22,8 @@ use Rattle.tables.proofs.Rooms.{fits_room, room_fits, places_same}
 use Rattle.clauses.specs.Standing.{standing, places_of, literals, proof_need, marks_need, grown, Stood}
 use Rattle.clauses.proofs.StandingLaws.{literals_more}
 use Rattle.clauses.proofs.StoreLaws.{proof_grown, marks_grown, places_grown, places_marks}
+use Rattle.mapping.specs.Shown.{MappingShown}
+use Rattle.matrix.specs.Index.{Indexed}
 use Rattle.indexes.specs.Shown.{IndexesShown}
 use Rattle.indexes.proofs.IndexLaws.{shown_more}
 use Rattle.resolvents.specs.Marks.{Clear}
@@ -28,7 +31,9 @@ use Rattle.reading.specs.Lines.{Light}
 use Rattle.derivations.specs.declared.Progress.{Progress}
 use Rattle.derivations.specs.declared.Reason.{Reason}
 use Rattle.derivations.specs.declared.Reason.TheVariants.{Clause, Parents}
-use Rattle.derivations.specs.Shown.{Work, work, Shown, needs_of, weight, ferp_rules, ferp_code}
+use Rattle.derivations.specs.declared.Derivation.{Derivation}
+use Rattle.derivations.specs.declared.Work.{Work}
+use Rattle.derivations.specs.Shown.{Shown, needs_of, weight, ferp_rules, ferp_code}
 use Rattle.derivations.specs.Judges.{line_of, Pending, counted_by, stood_in, StandsAs}
 
 -- one line more, as the rules count
@@ -45,57 +50,64 @@ abbrev pub marked : Tables → List ℤ → Tables
 marked t marks = tables t.prefix t.matrix t.map t.proof marks t.values
 
 -- THE STATE AFTER the line, whatever the clause follows from
-abbrev pub after : Derived → Reason → ℕ → Lits → Places → Derived
-after s reason i c needs =
-    derived (state s.state.mapped s.state.hinted (s.state.standing ++ (c ∷ [])) (expansions_then reason s.state.expansions)
-    (additions_then reason s.state.additions) s.state.deletions needs) (s.indexes ++ (i ∷ []))
+abbrev pub after : Derived → Derivation → Lits → Places → Derived
+after s d c needs =
+    derived (state s.state.mapped s.state.hinted (s.state.standing ++ (c ∷ [])) (expansions_then d.reason s.state.expansions)
+    (additions_then d.reason s.state.additions) s.state.deletions needs) (s.indexes ++ (d.index ∷ []))
 
--- what is needed with a clause of n literals more, copies up to m
-abbrev pub needs_with : Progress → ℕ → ℕ → Places
-needs_with p n m =
-    places p.formula.v p.formula.used p.mapped.used (proof_need p.store + places_of p.store + n + 2) (marks_need p.store + 1)
-    (max p.mapped.largest m)
+-- what is needed with the clause too
+abbrev pub needs_with : Progress → Derivation → Places
+needs_with p d =
+    places p.formula.v p.formula.used p.mapped.used (proof_need p.store + places_of p.store + d.size + 2) (marks_need p.store + 1)
+    (max p.mapped.largest d.largest)
 
 needs_of_lem : (reason : Reason) (i : ℕ) (c : Lits) → ferp_needs (line_of i reason c) ≡ places 0 0 0 (length c + 2) 1 (greatest (vars c))
 unfolding ferp_needs
 needs_of_lem (Clause n) i c = refl
 needs_of_lem (Parents a b) i c = refl
 
-accept_is : (s : Derived) (i : ℕ) (reason : Reason) (c : Lits) → accept s (line_of i reason c) ≡ after s reason i c s.state.needs
+-- how many lines of either kind there are then, and the clauses and the indexes, by what the clause follows from
+abbrev then : Derived → ℕ → Reason → Lits → Places → Derived
+then s i reason c needs =
+    derived (state s.state.mapped s.state.hinted (s.state.standing ++ (c ∷ [])) (expansions_then reason s.state.expansions)
+    (additions_then reason s.state.additions) s.state.deletions needs) (s.indexes ++ (i ∷ []))
+
+accept_is : (s : Derived) (i : ℕ) (reason : Reason) (c : Lits) → accept s (line_of i reason c) ≡ then s i reason c s.state.needs
 unfolding accept ferat-lines.accept
 accept_is s i (Clause n) c = refl
 accept_is s i (Parents a b) c = refl
 
-module _ {p : Progress} {t : Tables} {w : Work} {f : Formula} {s : Derived} (sh : Shown p t w f s) where
-  pub clause_needs_lem : (i : ℕ) (reason : Reason) (c : Lits) {n m : ℕ} → n ≡ length c → m ≡ greatest (vars c)
-      → (needing s (line_of i reason c)).state.needs ≡ needs_with p n m
+module _ {p : Progress} {t : Tables} {w : Work} {f : Formula} {s : Derived} (sh : Shown p t w f s) (d : Derivation) where
+  abbrev line : Lits → FerpLine
+  line = line_of d.index d.reason
+
+  pub clause_needs_lem : (c : Lits) → d.size ≡ length c → d.largest ≡ greatest (vars c) → (needing s (line c)).state.needs ≡ needs_with p d
   unfolding together
-  clause_needs_lem i reason c {n} {m} e g =
-      ap₂ together sh.needs (needs_of_lem reason i c)
+  clause_needs_lem c e g =
+      ap₂ together sh.needs (needs_of_lem d.reason d.index c)
       ∙ places_same (omega arith) (omega arith) (omega arith) (omega (arith, e)) (omega arith) (ap (max p.mapped.largest) (sym g))
 
-  pub accepted_as : (i : ℕ) (reason : Reason) (c : Lits) {n m : ℕ} → n ≡ length c → m ≡ greatest (vars c)
-      → accept (needing s (line_of i reason c)) (line_of i reason c) ≡ after s reason i c (needs_with p n m)
-  accepted_as i reason c e g = accept_is (needing s (line_of i reason c)) i reason c ∙ ap (after s reason i c) (clause_needs_lem i reason c e g)
+  pub accepted_as : (c : Lits) → d.size ≡ length c → d.largest ≡ greatest (vars c) → accept (needing s (line c)) (line c) ≡ after s d c (needs_with p d)
+  accepted_as c e g = accept_is (needing s (line c)) d.index d.reason c ∙ ap (after s d c) (clause_needs_lem c e g)
 
-  module _ {n m : ℕ} {c : Lits} (o : Pending p t n m c) (i : ℕ) (reason : Reason) where
-    module _ {marks : List ℤ} {indexes : List ℕ} {q : Progress} {k : ℕ} (light : Light ferp_rules ferp_code p k) (more : n < k)
-        (d : StandsAs p i reason n m t.marks w.indexes q marks indexes) where
-      small : proof_need (grown p.store n) < 1073741824
-      small = omega (arith, light, more, proof_grown p.store n)
+  module _ {c : Lits} (o : Pending p t d c) where
+    module _ {marks : List ℤ} {indexes : List ℕ} {q : Progress} {k : ℕ} (light : Light ferp_rules ferp_code p k) (more : d.size < k)
+        (h : StandsAs p d t.marks w.indexes q marks indexes) where
+      small : proof_need (grown p.store d.size) < 1073741824
+      small = omega (arith, light, more, proof_grown p.store d.size)
 
-      stood : (q.store ≡ grown p.store n) × Stood t.proof t.marks marks p.store n
+      stood : (q.store ≡ grown p.store d.size) × Stood t.proof t.marks marks p.store d.size
       stood =
-          let a = d.stands small (omega (arith, o.marks, marks_grown p.store n)) in
+          let a = h.stands small (omega (arith, o.marks, marks_grown p.store d.size)) in
           (a.0, a.1 t.proof sh.filled (o.count ∙ sym (length-map c code_of) ∙ ap length (sym o.stored)))
 
-      next : q ≡ stood_in p reason m (grown p.store n)
-      next = d.next ∙ ap (stood_in p reason m) stood.0
+      next : q ≡ stood_in p d (grown p.store d.size)
+      next = h.next ∙ ap (stood_in p d) stood.0
 
-      pub stood_kept : KeptAll (needs_with p n m) t (marked t marks)
+      pub stood_kept : KeptAll (needs_with p d) t (marked t marks)
       stood_kept =
-          let a = all_self (needs_with p n m) t in
-          let e : marks_need (grown p.store n) ≡ marks_need p.store + 1 = marks_grown p.store n in
+          let a = all_self (needs_with p d) t in
+          let e : marks_need (grown p.store d.size) ≡ marks_need p.store + 1 = marks_grown p.store d.size in
           record {
             prefix = a.prefix;
             matrix = a.matrix;
@@ -105,14 +117,14 @@ module _ {p : Progress} {t : Tables} {w : Work} {f : Formula} {s : Derived} (sh 
             values = a.values;
           }
 
-      needs_are : needs_of (stood_in p reason m (grown p.store n)) ≡ needs_with p n m
+      needs_are : needs_of (stood_in p d (grown p.store d.size)) ≡ needs_with p d
       needs_are =
-          places_same refl refl refl (omega (arith, proof_grown p.store n, places_grown p.store n)) (marks_grown p.store n) refl
+          places_same refl refl refl (omega (arith, proof_grown p.store d.size, places_grown p.store d.size)) (marks_grown p.store d.size) refl
 
-      room_then : fits (lengths_of (marked t marks)) (needs_with p n m) ≡ true
+      room_then : fits (lengths_of (marked t marks)) (needs_with p d) ≡ true
       room_then =
           let r = fits_room (lengths_of t) (needs_of p) sh.room in
-          room_fits (lengths_of (marked t marks)) (needs_with p n m) record {
+          room_fits (lengths_of (marked t marks)) (needs_with p d) record {
             prefix = r.prefix;
             matrix = r.matrix;
             map = r.map;
@@ -122,33 +134,34 @@ module _ {p : Progress} {t : Tables} {w : Work} {f : Formula} {s : Derived} (sh 
           }
 
       counts_are : (e a x : ℕ) → p.counts.expansions ≡ e → p.counts.additions ≡ a → p.counts.deletions ≡ x
-          → ((counted_by reason p.counts).expansions ≡ expansions_then reason e) × ((counted_by reason p.counts).additions ≡ additions_then reason a)
-          × ((counted_by reason p.counts).deletions ≡ x)
-      counts_are e a x g h j = by reason
+          → ((counted_by d.reason p.counts).expansions ≡ expansions_then d.reason e) × ((counted_by d.reason p.counts).additions ≡ additions_then d.reason a)
+          × ((counted_by d.reason p.counts).deletions ≡ x)
+      counts_are e a x g h j = by d.reason
         where
           by : (r : Reason) → ((counted_by r p.counts).expansions ≡ expansions_then r e) × ((counted_by r p.counts).additions ≡ additions_then r a)
               × ((counted_by r p.counts).deletions ≡ x)
           by (Clause _) = (omega (arith, g, light), h, j)
           by (Parents _ _) = (g, omega (arith, h, light), j)
 
-      pub stood_shown : i ≤ 65536 → is_in s.indexes i ≡ false → (seen : List ℕ) → Clear seen
-          → Shown q (marked t marks) (work w.starts w.noted indexes seen) f (after s reason i c (needs_with p n m))
-      stood_shown l new seen clear =
-          subst (λ r. Shown r (marked t marks) (work w.starts w.noted indexes seen) f (after s reason i c (needs_with p n m))) (sym next) record {
+      -- in a working memory of which no more than the indexes and the marks of the tests changed
+      pub stood_shown : d.index ≤ 65536 → is_in s.indexes d.index ≡ false → {v : Work} → v.starts ≡ w.starts → v.noted ≡ w.noted → v.indexes ≡ indexes
+          → Clear v.seen → Shown q (marked t marks) v f (after s d c (needs_with p d))
+      stood_shown l new {v} starts_same noted_same indexes_are clear =
+          subst (λ r. Shown r (marked t marks) v f (after s d c (needs_with p d))) (sym next) record {
             formula = sh.formula;
-            indexed = sh.indexed;
-            mapping = sh.mapping;
+            indexed = subst (λ z. Indexed z f) (sym starts_same) sh.indexed;
+            mapping = subst (λ z. MappingShown t.map t.values z p.mapped.used s.state.mapped) (sym noted_same) sh.mapping;
             proper = sh.proper;
             copies = omega (arith, sh.copies, o.range);
             clauses =
                 ap literals (stood.1.standing_then ∙ ap (λ l. standing t.proof t.marks (places_of p.store) ++ (l ∷ [])) o.stored)
                 ∙ literals_more (standing t.proof t.marks (places_of p.store)) c ∙ ap (λ S. S ++ (c ∷ [])) sh.clauses;
             filled = stood.1.filled;
-            count = omega (arith, places_grown p.store n, sh.count, length-append s.indexes (i ∷ []));
-            paired = omega (arith, sh.paired, length-append s.indexes (i ∷ []), length-append s.state.standing (c ∷ []));
+            count = omega (arith, places_grown p.store d.size, sh.count, length-append s.indexes (d.index ∷ []));
+            paired = omega (arith, sh.paired, length-append s.indexes (d.index ∷ []), length-append s.state.standing (c ∷ []));
             indexes =
-                subst (λ a. IndexesShown a (s.indexes ++ (i ∷ []))) (sym d.index)
-                (shown_more sh.indexes i l new (omega (arith, sh.count, light, places_marks p.store)));
+                subst (λ a. IndexesShown a (s.indexes ++ (d.index ∷ []))) (sym (indexes_are ∙ h.index))
+                (shown_more sh.indexes d.index l new (places_of p.store % 1073741824) (omega (arith, sh.count, light, places_marks p.store)));
             clear = clear;
             expansions = (counts_are s.state.expansions s.state.additions s.state.deletions sh.expansions sh.additions sh.deletions).0;
             additions = (counts_are s.state.expansions s.state.additions s.state.deletions sh.expansions sh.additions sh.deletions).1;
@@ -157,12 +170,12 @@ module _ {p : Progress} {t : Tables} {w : Work} {f : Formula} {s : Derived} (sh 
             room = ap (fits (lengths_of (marked t marks))) needs_are ∙ room_then;
           }
 
-      low : weight (stood_in p reason m (grown p.store n)) ≤ weight p + 3 * k
-      low = by reason
+      low : weight (stood_in p d (grown p.store d.size)) ≤ weight p + 3 * k
+      low = by d.reason
         where
-          by : (r : Reason) → weight (stood_in p r m (grown p.store n)) ≤ weight p + 3 * k
-          by (Clause _) = omega (arith, light, more, proof_grown p.store n, marks_grown p.store n)
-          by (Parents _ _) = omega (arith, light, more, proof_grown p.store n, marks_grown p.store n)
+          by : (r : Reason) → weight (stood_in p (record d { reason = r }) (grown p.store d.size)) ≤ weight p + 3 * k
+          by (Clause _) = omega (arith, light, more, proof_grown p.store d.size, marks_grown p.store d.size)
+          by (Parents _ _) = omega (arith, light, more, proof_grown p.store d.size, marks_grown p.store d.size)
 
       pub stood_weight : weight q ≤ weight p + 3 * k
       stood_weight = subst (λ r. weight r ≤ weight p + 3 * k) (sym next) low

@@ -1,8 +1,9 @@
 -- Judging a clause line that is stored. Assumes nothing.
-use Rattle.std.specs.Prelude.{◌≡◌, List, map, ℕ, ◌+◌, ◌%◌, ◌<◌, ◌≤◌, max, length, ℤ}
+use Rattle.std.specs.Prelude.{◌≡◌, Result, List, map, ℕ, ◌+◌, ◌%◌, ◌<◌, ◌≤◌, max, length, ℤ}
 use Rattle.rules.specs.Basics.{greatest}
 use Rattle.rules.specs.Literals.{Lits, vars}
 use Rattle.rules.specs.Codes.{code_of}
+use Rattle.rules.specs.declared.Rule.{Rule}
 use Rattle.rules.specs.Formula.{Formula}
 use Rattle.rules.specs.Step as rules
 use Rattle.rules.specs.Step.{refuse_in}
@@ -15,10 +16,11 @@ use Rattle.indexes.specs.Shown.{noted}
 use Rattle.reading.specs.declared.Counts.{Counts}
 use Rattle.reading.specs.Lines.{Light, Leads}
 use Rattle.derivations.specs.declared.Progress.{Progress}
-use Rattle.derivations.specs.declared.Step.{Step}
 use Rattle.derivations.specs.declared.Reason.{Reason}
 use Rattle.derivations.specs.declared.Reason.TheVariants.{Clause, Parents}
-use Rattle.derivations.specs.Shown.{Work, Shown, ferp_rules, ferp_code, answer_of}
+use Rattle.derivations.specs.declared.Derivation.{Derivation}
+use Rattle.derivations.specs.declared.Work.{Work}
+use Rattle.derivations.specs.Shown.{Shown, ferp_rules, ferp_code}
 
 -- the line of a clause with index i
 abbrev pub line_of : ℕ → Reason → Lits → FerpLine
@@ -34,15 +36,15 @@ abbrev pub Named : Formula → ℕ → Reason → Type 0
 Named f i (Clause n) = (i ≤ 65536) × (1 ≤ n) × (n ≤ f.count)
 Named f i (Parents a b) = (i ≤ 65536) × (a ≤ 65536) × (b ≤ 65536)
 
--- A CLAUSE OF n LITERALS with copies up to m is stored, does not stand yet, and has its places
-pub record Pending (p : Progress) (t : Tables) (n m : ℕ) (c : Lits) : Type 0 where
+-- THE CLAUSE c OF A LINE is stored, does not stand yet, and has its places
+pub record Pending (p : Progress) (t : Tables) (d : Derivation) (c : Lits) : Type 0 where
   pub stored : pending t.proof p.store ≡ map code_of c
-  pub count : n ≡ length c
-  pub most : m ≡ greatest (vars c)
-  pub range : m ≤ 16384
-  pub proof : proof_need p.store + places_of p.store + n + 2 ≤ length t.proof
+  pub count : d.size ≡ length c
+  pub most : d.largest ≡ greatest (vars c)
+  pub range : d.largest ≤ 16384
+  pub proof : proof_need p.store + places_of p.store + d.size + 2 ≤ length t.proof
   pub marks : marks_need p.store + 1 ≤ length t.marks
-  pub values : max p.mapped.largest m ≤ length t.values
+  pub values : max p.mapped.largest d.largest ≤ length t.values
 
 -- one line more, in whatever state
 abbrev pub counted_by : Reason → Counts → Counts
@@ -50,22 +52,32 @@ counted_by (Clause n) c = record { expansions = c.expansions % 1073741824 + 1; a
 counted_by (Parents a b) c = record { expansions = c.expansions; additions = c.additions % 1073741824 + 1; deletions = c.deletions }
 
 -- the progress with one clause more
-abbrev pub stood_in : Progress → Reason → ℕ → Store → Progress
-stood_in p reason m store = record {
+abbrev pub stood_in : Progress → Derivation → Store → Progress
+stood_in p d store = record {
   formula = p.formula;
-  mapped = record { used = p.mapped.used; largest = max p.mapped.largest m };
+  mapped = record { used = p.mapped.used; largest = max p.mapped.largest d.largest };
   store = store;
-  counts = counted_by reason p.counts;
+  counts = counted_by d.reason p.counts;
 }
 
 -- THE PENDING CLAUSE STANDS, and its index is noted
-pub record StandsAs (p : Progress) (i : ℕ) (reason : Reason) (n m : ℕ) (marks : List ℤ) (indexes : List ℕ) (q : Progress) (marks' : List ℤ)
+pub record StandsAs (p : Progress) (d : Derivation) (marks : List ℤ) (indexes : List ℕ) (q : Progress) (marks' : List ℤ)
     (indexes' : List ℕ) : Type 0 where
-  pub next : q ≡ stood_in p reason m q.store
-  pub stands : StandsNow marks marks' p.store n q.store
-  pub index : indexes' ≡ noted indexes i (places_of p.store % 1073741824 + 1)
+  pub next : q ≡ stood_in p d q.store
+  pub stands : StandsNow marks marks' p.store d.size q.store
+  pub index : indexes' ≡ noted indexes d.index (places_of p.store % 1073741824)
 
 -- THE JUDGE of a pending clause: the tables t and the working memory w become u and v, and the step is the rules' step
-pub record Judges (i : ℕ) (reason : Reason) (p : Progress) (n m : ℕ) (t : Tables) (w : Work) (r : Step) (u : Tables) (v : Work) : Type 0 where
-  pub steps : (c : Lits) (k : ℕ) (f : Formula) (s : Derived) → Pending p t n m c → Named f i reason → Shown p t w f s → Light ferp_rules ferp_code p k → n < k
-      → Leads ferp_rules ferp_code f p k t (kind_judge f s (line_of i reason c)) (answer_of r) u v
+pub record Judges (d : Derivation) (p : Progress) (t : Tables) (w : Work) (r : Result Progress Rule) (u : Tables) (v : Work) : Type 0 where
+  pub steps : (c : Lits) (k : ℕ) (f : Formula) (s : Derived) → Pending p t d c → Named f d.index d.reason → Shown p t w f s → Light ferp_rules ferp_code p k
+      → d.size < k → Leads ferp_rules ferp_code f p k t (kind_judge f s (line_of d.index d.reason c)) r u v
+
+-- WHAT STAYS in any case: all of the working memory but the marks and the list of a test; but these and the indexes; and all tables but the marks
+abbrev pub OnlyTestedIn : Work → Work → Type 0
+OnlyTestedIn w v = v ≡ record w { seen = v.seen; held = v.held }
+
+abbrev pub OnlyDerivedIn : Work → Work → Type 0
+OnlyDerivedIn w v = v ≡ record w { indexes = v.indexes; seen = v.seen; held = v.held }
+
+abbrev pub OnlyMarksIn : Tables → Tables → Type 0
+OnlyMarksIn t u = u ≡ record t { marks = u.marks }

@@ -1,6 +1,5 @@
 -- What the progress, the tables and the working memory show of the rules' state between two lines of a FERP certificate. Assumes nothing.
-use Rattle.std.specs.Prelude.{◌≡◌, true, List, ◌⊎◌, ℕ, ◌+◌, ◌≤◌, length}
-use Rattle.std.proofs.Common.{inl, inr}
+use Rattle.std.specs.Prelude.{◌≡◌, true, List, ℕ, ◌+◌, ◌≤◌, length}
 use Rattle.rules.specs.Formula.{Formula}
 use Rattle.rules.specs.Needs.{Places, places, fits}
 use Rattle.rules.specs.Least.{Proper}
@@ -16,22 +15,7 @@ use Rattle.indexes.specs.Shown.{IndexesShown}
 use Rattle.resolvents.specs.Marks.{Clear}
 use Rattle.reading.specs.Lines.{Rules, Code}
 use Rattle.derivations.specs.declared.Progress.{Progress}
-use Rattle.derivations.specs.declared.Step.{Step}
-use Rattle.derivations.specs.declared.Step.TheVariants.{Next, Refuse}
-
--- THE WORKING MEMORY of a check: where the matrix clauses start, which copies are mapped, which clause has which index, and the marks that resolvents and expansions are tested by
-pub record Work : Type 0 where
-  pub starts : List ℕ
-  pub noted : List ℕ
-  pub indexes : List ℕ
-  pub seen : List ℕ
-
-abbrev pub work : List ℕ → List ℕ → List ℕ → List ℕ → Work
-work a b c d = record { starts = a; noted = b; indexes = c; seen = d }
-
--- as a call has it
-abbrev pub four : List ℕ → List ℕ → List ℕ → List ℕ → Work
-four a b c d = work a b c d
+use Rattle.derivations.specs.declared.Work.{Work}
 
 -- the clauses derived
 abbrev pub clauses_of : Progress → Tables → List (List ℕ)
@@ -71,8 +55,3 @@ ferp_rules = record { part = λ s. s.state; judge = λ l f. judge_bytes ferp_lin
 
 abbrev pub ferp_code : Code Derived Progress Work
 ferp_code = record { Shown = Shown; counts = λ p. p.counts; weight = weight }
-
--- the next progress, or a refusal's number
-abbrev pub answer_of : Step → Progress ⊎ ℕ
-answer_of (Next q) = inl q
-answer_of (Refuse k) = inr k

@@ -1,119 +1,93 @@
 // The judge of a clause line that is stored: rules 17, 16, 9 and 11.
-ghost use Rattle.std.specs.Prelude.{◌≡◌, ◌≤◌, length};
-ghost use Rattle.tables.specs.Tables.{six};
-ghost use Rattle.derivations.specs.Shown.{four};
+ghost use Rattle.std.specs.Prelude.{◌≡◌};
+ghost use Rattle.rules.specs.Rule.{broken};
+ghost use Rattle.tables.specs.Lent.{tables_of, SameLent};
 ghost use Rattle.derivations.specs.Rules.{ExpansionJudged, ParentsJudged, RuleJudged};
-ghost use Rattle.derivations.specs.Judges.{counted_by, Judges, StandsAs};
+ghost use Rattle.derivations.specs.Judges.{counted_by, Judges, StandsAs, OnlyMarksIn, OnlyTestedIn, OnlyDerivedIn};
 
-use crate::{Progress, Reason, Step};
-use cells::{larger, wide};
+use crate::{Derivation, Progress, Reason, Work};
+use clauses::Standing;
+use copies::View;
 use indexes::Indexes;
-use mapped::Noted;
 use mapping::Mapped;
-use matrix::Starts;
 use reading::Counts;
-use resolvents::Seen;
+use rules::Rule;
+use tables::LentTables;
 
-// "judged as an `e` line with hint n": the first of the rules 9 and 11 that the pending clause, of `size` literals, breaks; 0 if none.
+// "judged as an `e` line with hint n": the first of the rules 9 and 11 that the pending clause, of `size` literals, breaks.
 fn expansion_broken(
     p: Progress,
     n: u32,
     size: usize,
-    prefix: &[i32],
-    matrix: &[i32],
-    map: &[i32],
-    proof: &[i32],
-    marks: &[i32],
-    values: &[i32],
-    starts: &Starts,
-    noted: &Noted,
-    indexes: &Indexes,
-    seen: &mut Seen,
-    held: &mut [u16],
-) -> u32
-    ensures { 8194 ≤ length held.old → ExpansionJudged p n
-        (six prefix.now matrix.now map.now proof.now marks.now values.now)
-        (four starts.now noted.now indexes.now seen.old) result seen.new }
+    tables: &LentTables,
+    work: &mut Work,
+) -> Result<(), Rule>
+    ensures broken { ExpansionJudged p n (tables_of tables.now) work.old (broken result) work.new.seen }
+    ensures rest { OnlyTestedIn work.old work.new }
 {
-    let store = p.store;
-    if unmapped::all_mapped(proof, clauses::pending(store), noted) {
-        let l = clauses::written(store);
-        if expansion::expands_named(
-            prefix,
-            values,
-            map,
-            proof,
-            l,
-            size,
-            matrix,
-            starts,
-            wide(n),
-            seen,
-            held,
-        ) {
-            return 0;
-        }
-        return 11;
+    if !unmapped::all_mapped(clauses::pending(tables.proof, p.store), &work.noted) {
+        return Err(Rule::Unmapped);
     }
-    9
+    let view = View {
+        prefix: tables.prefix,
+        values: tables.values,
+        map: tables.map,
+        proof: tables.proof,
+        line: clauses::written(p.store),
+    };
+    if !expansion::expands_named(
+        view,
+        size,
+        tables.matrix,
+        &work.starts,
+        n as usize,
+        &mut work.seen,
+        &mut work.held,
+    ) {
+        return Err(Rule::NoExpansion);
+    }
+    Ok(())
 }
 
-// The first of the rules that a resolution breaks, 16 or none, by the clauses with indexes a and b.
+// Rule 16 of a resolution of the clauses with indexes a and b.
 fn parents_broken(
     p: Progress,
     a: u32,
     b: u32,
-    proof: &[i32],
-    marks: &[i32],
-    indexes: &Indexes,
-    seen: &mut Seen,
-) -> u32
-    ensures { ParentsJudged p a b proof.now marks.now indexes.now seen.old result seen.new }
+    tables: &LentTables,
+    work: &mut Work,
+) -> Result<(), Rule>
+    ensures broken { ParentsJudged p a b (tables_of tables.now) work.old (broken result) work.new.seen }
+    ensures rest { OnlyTestedIn work.old work.new }
 {
-    let store = p.store;
-    let i = indexes::place_of(indexes, a);
-    let j = indexes::place_of(indexes, b);
-    if i == 0 {
-        return 16;
+    let i = indexes::place_of(&work.indexes, a).ok_or(Rule::BadParent)?;
+    let j = indexes::place_of(&work.indexes, b).ok_or(Rule::BadParent)?;
+    let standing = Standing {
+        proof: tables.proof,
+        marks: tables.marks,
+        count: clauses::places(p.store),
+    };
+    let d = standing.clause(i);
+    let e = standing.clause(j);
+    if !resolvents::resolves(
+        clauses::pending(tables.proof, p.store),
+        d,
+        e,
+        &mut work.seen,
+    ) {
+        return Err(Rule::BadParent);
     }
-    if j == 0 {
-        return 16;
-    }
-    let d = clauses::clause(proof, marks, wide(i - 1));
-    let e = clauses::clause(proof, marks, wide(j - 1));
-    if resolvents::resolves(proof, clauses::pending(store), d, e, seen) {
-        return 0;
-    }
-    16
+    Ok(())
 }
 
-// The first of the rules 16, 9 and 11 that the pending clause, of `size` literals, breaks; 0 if none.
-fn rule_broken(
-    p: Progress,
-    reason: Reason,
-    size: usize,
-    prefix: &[i32],
-    matrix: &[i32],
-    map: &[i32],
-    proof: &[i32],
-    marks: &[i32],
-    values: &[i32],
-    starts: &Starts,
-    noted: &Noted,
-    indexes: &Indexes,
-    seen: &mut Seen,
-    held: &mut [u16],
-) -> u32
-    ensures { 8194 ≤ length held.old → RuleJudged p reason
-        (six prefix.now matrix.now map.now proof.now marks.now values.now)
-        (four starts.now noted.now indexes.now seen.old) result seen.new }
+// The first of the rules 16, 9 and 11 that the pending clause breaks.
+fn rule_broken(p: Progress, d: Derivation, tables: &LentTables, work: &mut Work) -> Result<(), Rule>
+    ensures broken { RuleJudged p d.reason (tables_of tables.now) work.old (broken result) work.new.seen }
+    ensures rest { OnlyTestedIn work.old work.new }
 {
-    match reason {
-        Reason::Clause(n) => expansion_broken(
-            p, n, size, prefix, matrix, map, proof, marks, values, starts, noted, indexes, seen,
-            held,
-        ),
-        Reason::Parents(a, b) => parents_broken(p, a, b, proof, marks, indexes, seen),
+    match d.reason {
+        Reason::Clause(n) => expansion_broken(p, n, d.size, tables, work),
+        Reason::Parents(a, b) => parents_broken(p, a, b, tables, work),
     }
 }
 
@@ -124,81 +98,48 @@ fn with_line(c: Counts, reason: Reason) -> Counts
     match reason {
         Reason::Clause(_) => Counts {
             expansions: c.expansions % 1073741824 + 1,
-            additions: c.additions,
-            deletions: c.deletions,
+            ..c
         },
         Reason::Parents(_, _) => Counts {
-            expansions: c.expansions,
             additions: c.additions % 1073741824 + 1,
-            deletions: c.deletions,
+            ..c
         },
     }
 }
 
-// The pending clause of n literals, with copies up to m, stands from now on, and has index i.
-fn stand(
-    p: Progress,
-    i: u32,
-    reason: Reason,
-    n: usize,
-    m: u32,
-    marks: &mut [i32],
-    indexes: &mut Indexes,
-) -> Progress
-    ensures { StandsAs p i reason n m marks.old indexes.old result marks.new indexes.new }
+// The pending clause stands from now on, and has its index.
+fn stand(p: Progress, d: Derivation, marks: &mut [i32], indexes: &mut Indexes) -> Progress
+    ensures { StandsAs p d marks.old indexes.old result marks.new indexes.new }
 {
-    let formula = p.formula;
-    let before = p.store;
-    let place = clauses::places(before) % 1073741824 + 1;
-    let mapped = Mapped {
-        used: p.mapped.used,
-        largest: larger(p.mapped.largest, m),
-    };
-    let counts = with_line(p.counts, reason);
-    let store = clauses::stand(marks, before, n);
-    indexes::note(indexes, i, place as u32);
+    let place = (clauses::places(p.store) % 1073741824) as u32;
+    let store = clauses::stand(marks, p.store, d.size);
+    indexes::note(indexes, d.index, place);
     Progress {
-        formula,
-        mapped,
+        formula: p.formula,
+        mapped: Mapped {
+            used: p.mapped.used,
+            largest: p.mapped.largest.max(d.largest),
+        },
         store,
-        counts,
+        counts: with_line(p.counts, d.reason),
     }
 }
 
-// Rules 17, 16, 9 and 11 of the pending clause, which has index i, n literals and copies up to m: it stands, or is refused. In `held`, which has
-// room for every literal of the formula, the test of an expansion lists literals.
+// Rules 17, 16, 9 and 11 of the pending clause, which is as the line says: it stands, or is refused.
 pub fn derive(
     p: Progress,
-    i: u32,
-    reason: Reason,
-    n: usize,
-    m: u32,
-    prefix: &[i32],
-    matrix: &[i32],
-    map: &[i32],
-    proof: &[i32],
-    marks: &mut [i32],
-    values: &[i32],
-    starts: &Starts,
-    noted: &Noted,
-    indexes: &mut Indexes,
-    seen: &mut Seen,
-    held: &mut [u16],
-) -> Step
-    ensures { 8194 ≤ length held.old → Judges i reason p n m
-        (six prefix.now matrix.now map.now proof.now marks.old values.now)
-        (four starts.now noted.now indexes.old seen.old) result
-        (six prefix.now matrix.now map.now proof.now marks.new values.now)
-        (four starts.now noted.now indexes.new seen.new) }
+    d: Derivation,
+    tables: &mut LentTables,
+    work: &mut Work,
+) -> Result<Progress, Rule>
+    ensures judged { Judges d p (tables_of tables.old) work.old result (tables_of tables.new) work.new }
+    ensures rest { OnlyMarksIn (tables_of tables.old) (tables_of tables.new) }
+    ensures others { OnlyDerivedIn work.old work.new }
+    ensures lent { SameLent tables.old tables.new }
 {
-    if indexes::place_of(indexes, i) != 0 {
-        return Step::Refuse(17);
+    if indexes::place_of(&work.indexes, d.index).is_some() {
+        return Err(Rule::IndexUsed);
     }
-    let k = rule_broken(
-        p, reason, n, prefix, matrix, map, proof, marks, values, starts, noted, indexes, seen, held,
-    );
-    if k != 0 {
-        return Step::Refuse(k);
-    }
-    Step::Next(stand(p, i, reason, n, m, marks, indexes))
+    rule_broken(p, d, tables, work)?;
+    Ok(stand(p, d, tables.marks, &mut work.indexes))
 }

@@ -1,11 +1,12 @@
 // The limits of a clause line.
 ghost use Rattle.std.specs.Prelude.{◌≡◌};
+ghost use Rattle.rules.specs.Rule.{broken};
 ghost use Rattle.derivations.specs.Limits.{reason_in_range, line_in_range, has_places, limit_broken};
 
-use crate::{Progress, Reason};
-use cells::{larger, wide};
+use crate::{Derivation, Progress, Reason};
 use indexes::HIGHEST;
 use mapped::COPIES;
+use rules::Rule;
 
 // n is at most C; indexes are at most 65536.
 fn reason_in_range(c: u32, reason: Reason) -> bool
@@ -13,59 +14,48 @@ fn reason_in_range(c: u32, reason: Reason) -> bool
 {
     match reason {
         Reason::Clause(n) => n <= c,
-        Reason::Parents(a, b) => {
-            if wide(a) <= HIGHEST {
-                return wide(b) <= HIGHEST;
-            }
-            false
-        }
+        Reason::Parents(a, b) => a as usize <= HIGHEST && b as usize <= HIGHEST,
     }
 }
 
-// Rule 3, of a clause with index i and copies up to m.
-fn in_range(p: Progress, i: u32, reason: Reason, m: u32) -> bool
-    ensures { result ≡ line_in_range p i reason m }
+// Rule 3.
+#[tactic(auto, unfolding(crate::specs::Limits::line_in_range))]
+fn in_range(p: Progress, d: Derivation) -> bool
+    ensures { result ≡ line_in_range p d }
 {
-    if wide(i) <= HIGHEST {
-        if wide(m) <= COPIES {
-            return reason_in_range(p.formula.c, reason);
-        }
-    }
-    false
+    d.index as usize <= HIGHEST
+        && d.largest as usize <= COPIES
+        && reason_in_range(p.formula.c, d.reason)
 }
 
-// Rule 15: the places of a clause of n literals with copies up to m are there, in tables of these lengths.
-fn has_places(p: Progress, n: usize, m: u32, proof: usize, marks: usize, values: usize) -> bool
-    ensures { result ≡ has_places p n m proof marks values }
+// Rule 15: the places of the clause are there, in tables of these lengths.
+fn has_places(p: Progress, d: Derivation, proof: usize, marks: usize, values: usize) -> bool
+    ensures { result ≡ has_places p d proof marks values }
 {
-    let store = p.store;
-    let count = clauses::places(store);
-    if count < proof {
-        if clauses::fits(store, n, proof - count - 1, marks) {
-            return wide(larger(p.mapped.largest, m)) <= values;
-        }
+    let count = clauses::places(p.store);
+    if proof <= count {
+        return false;
     }
-    false
+    clauses::fits(p.store, d.size, proof - count - 1, marks)
+        && p.mapped.largest.max(d.largest) as usize <= values
 }
 
-// The first of the rules 3 and 15 that a clause line breaks; 0 if none.
+// The first of the rules 3 and 15 that a clause line breaks, in tables of these lengths.
+#[tactic(auto, unfolding(crate::specs::Limits::limit_broken))]
 pub fn limit_broken(
     p: Progress,
-    i: u32,
-    reason: Reason,
-    n: usize,
-    m: u32,
+    d: Derivation,
     proof: usize,
     marks: usize,
     values: usize,
-) -> u32
-    ensures { result ≡ limit_broken p i reason n m proof marks values }
+) -> Result<(), Rule>
+    ensures { broken result ≡ limit_broken p d proof marks values }
 {
-    if in_range(p, i, reason, m) {
-        if has_places(p, n, m, proof, marks, values) {
-            return 0;
-        }
-        return 15;
+    if !in_range(p, d) {
+        return Err(Rule::OutOfRange);
     }
-    3
+    if !has_places(p, d, proof, marks, values) {
+        return Err(Rule::TableFull);
+    }
+    Ok(())
 }

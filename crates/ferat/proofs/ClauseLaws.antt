@@ -1,7 +1,7 @@
 -- Laws of the lines that store a clause. Assumes nothing.
 use mathlib.Core.Path.{◌≡◌, refl, ap, sym, ◌∙◌, subst}
 use mathlib.Core.Bool.{Bool, true, false}
-use mathlib.Core.List.{List, map}
+use mathlib.Core.List.{List}
 use mathlib.Core.Option.{Option, none, some}
 use Prim.Native.Nat.{ℕ, ◌<◌, ◌≤◌}
 use native.Mathlib.Omega.{arith}
@@ -9,10 +9,17 @@ use lib.Dec.{leb}
 use lib.ListN.{length}
 use lib.IntN.{ℤ}
 use borrow.Author.Tests.{le-leb, lt-leb}
+use Rattle.std.specs.Prelude.{Result, Ok, Err, Some, None}
+use Rattle.std.specs.Prelude as prelude
+use Rattle.std.specs.Option.{ok_or}
+use Rattle.rules.specs.Rule.{number}
+use Rattle.rules.specs.declared.Rule.{Rule}
+use Rattle.rules.specs.declared.Rule.TheVariants.{Malformed}
+use Rattle.rules.proofs.RuleLaws.{number_not_zero}
 use Rattle.lines.specs.Lines.{Token}
 use Rattle.lines.specs.Lists.{all}
 use Rattle.lines.specs.Scan.{tokens_from}
-use Rattle.lists.specs.declared.Clause.{Clause}
+use Rattle.lists.specs.declared.Measure.{Measure}
 use Rattle.lists.specs.Lists.{lits_at, clause_at}
 use Rattle.lists.proofs.ListLaws.{all_low, listed_low, listed_high}
 use Rattle.lists.proofs.FormLaws.{Seen, clause_told, as_clause, bad_clause}
@@ -32,11 +39,10 @@ use Rattle.clauses.specs.Standing.{literals, proof_need, stored, Pended}
 use Rattle.clauses.proofs.StoreLaws.{pended}
 use Rattle.propagation.proofs.HeldLaws.{held_pended}
 use Rattle.progress.specs.declared.Progress.{Progress}
-use Rattle.progress.specs.declared.Step.{Step}
-use Rattle.progress.specs.declared.Step.TheVariants.{Refuse}
 use Rattle.progress.specs.Order.{no_additions, limit_broken}
 use Rattle.reading.proofs.LineLaws.{state_of, leads_later}
-use Rattle.progress.specs.Shown.{Work, needs_of, Shown, Stepped, ferat_rules, ferat_code, answer_of}
+use Rattle.progress.specs.declared.Work.{Work}
+use Rattle.progress.specs.Shown.{needs_of, Shown, Stepped, ferat_rules, ferat_code}
 use Rattle.steps.specs.Judges.{kind_judge, Pending, Judges}
 use Rattle.steps.specs.Stands.{needs_with}
 use Rattle.steps.proofs.JudgeLaws.{judge_order, judge_range, judge_room, judge_rest, refused_in}
@@ -44,6 +50,16 @@ use Rattle.progress.proofs.OrderLaws.{order_additions, Passed, Limited, within, 
 use Rattle.steps.proofs.StandLaws.{Adds, expansions_add, additions_add, clause_needs_lem, clause_room}
 use Rattle.progress.proofs.HintLaws.{hints_kept}
 use Rattle.ferat.specs.Lines.{judged, Line}
+
+-- a first pass that is asked for with a refusal
+module _ {A : Type 0} where
+  pub asked_some : (r : prelude.Option A) {q : A} → ok_or r Malformed ≡ Ok q → r ≡ Some q
+  asked_some None e = cc
+  asked_some (Some x) {q} e = let z : x ≡ q = cc in ap Some z
+
+  pub asked_none : (r : prelude.Option A) {k : Rule} → ok_or r Malformed ≡ Err k → (k ≡ Malformed) × (r ≡ None)
+  asked_none None {k} e = (let z : Malformed ≡ k = cc in sym z, refl)
+  asked_none (Some x) e = cc
 
 -- the rules' answer by the form
 module _ (form : List Token → Option CertificateLine) (bs : List ℕ) (at : ℕ) (t : Tables) (f : Formula) (s : State) where
@@ -56,7 +72,7 @@ module _ (form : List Token → Option CertificateLine) (bs : List ℕ) (at : �
   judged_some e = ap (λ o. maybe o (rules.refuse 2 s) (judge (limits (lengths_of t)) f s)) e
 
 -- A LINE HAS MORE BYTES THAN LITERALS
-pub count_low : {bs : List ℕ} {at s n m : ℕ} → Seen bs at s n m → n < length bs
+pub count_low : {bs : List ℕ} {at : ℕ} {s : Bool} {n m : ℕ} → Seen bs at s n m → n < length bs
 count_low o = let k = o.listing.further in let l = o.listing.within in omega arith
 
 -- THE KINDS: what they need, their range and their turn
@@ -83,14 +99,20 @@ unfolding in_sequence
 expansion_turn e c f s sh = sym (e ∙ order_additions sh)
 
 module _ {kind : Lits → CertificateLine} (kk : ClauseKind kind) (bs : List ℕ) (at : ℕ) (p : Progress) (t : Tables) (w : Work) where
-  pub clause_bad : clause_at bs at ≡ Clause.Bad → (v : Work) → Line (clause_form kind) bs at p t w (Refuse 2) t v
+  pub clause_bad : clause_at bs at ≡ None → (v : Work) → Line (clause_form kind) bs at p t w (Err Malformed) t v
   clause_bad h v = record {
     steps = λ f s sh l.
-        refused_in f p (length bs) t t v (judged_none (clause_form kind) bs at t f s (bad_clause bs at h kind)) (all_self s.needs t);
+        refused_in f p (length bs) t t v Malformed (judged_none (clause_form kind) bs at t f s (bad_clause bs at h kind)) (all_self s.needs t);
   }
 
-  module _ {g n m : ℕ} (h : clause_at bs at ≡ Clause.Good g n m) where
-    seen : Seen bs at g n m
+  module _ {q : Measure} (h : clause_at bs at ≡ Some q) where
+    abbrev n : ℕ
+    n = q.count
+
+    abbrev m : ℕ
+    m = q.largest
+
+    seen : Seen bs at q.negative n m
     seen = clause_told bs at h
 
     abbrev c : Lits
@@ -115,45 +137,47 @@ module _ {kind : Lits → CertificateLine} (kk : ClauseKind kind) (bs : List ℕ
     abbrev Turn : Bool → Type 0
     Turn b = (f : Formula) (s : State) → Shown p t w f s → in_sequence s (kind c) ≡ b
 
-    pub clause_late : Turn false → (v : Work) → Line (clause_form kind) bs at p t w (Refuse 2) t v
+    pub clause_late : Turn false → (v : Work) → Line (clause_form kind) bs at p t w (Err Malformed) t v
     clause_late turn v = record {
       steps = λ f s sh l.
-          refused_in f p (length bs) t t v (judged_line f s (judge_order (limits (lengths_of t)) f s (kind c) (turn f s sh))) (all_self s.needs t);
+          refused_in f p (length bs) t t v Malformed (judged_line f s (judge_order (limits (lengths_of t)) f s (kind c) (turn f s sh))) (all_self s.needs t);
     }
 
-    module _ (turn : Turn true) {k : ℕ}
-        (q : k ≡ limit_broken p n m (length t.proof) (length t.marks) (length t.values)) where
-      told : Limited p n m (length t.proof) (length t.marks) (length t.values) k
-      told = subst (Limited p n m (length t.proof) (length t.marks) (length t.values)) (sym q) (limited p n m (length t.proof) (length t.marks) (length t.values))
+    module _ (turn : Turn true) where
+      told : {k : ℕ} → k ≡ limit_broken p n m (length t.proof) (length t.marks) (length t.values) → Limited p n m (length t.proof) (length t.marks) (length t.values) k
+      told e = subst (Limited p n m (length t.proof) (length t.marks) (length t.values)) (sym e) (limited p n m (length t.proof) (length t.marks) (length t.values))
 
       -- 3 or 15
-      pub clause_limited : (k ≡ 0 → ⊥) → (v : Work) → Line (clause_form kind) bs at p t w (Refuse k) t v
-      clause_limited z v = go k told z
+      pub clause_limited : {k : Rule} → number k ≡ limit_broken p n m (length t.proof) (length t.marks) (length t.values) → (v : Work)
+          → Line (clause_form kind) bs at p t w (Err k) t v
+      clause_limited {k} e v = go (number k) refl (told e)
         where
-          go : (i : ℕ) → Limited p n m (length t.proof) (length t.marks) (length t.values) i → (i ≡ 0 → ⊥) → Line (clause_form kind) bs at p t w (Refuse i) t v
-          go i (within o) z = absurd (z refl)
-          go i (beyond o) z = record {
+          go : (i : ℕ) → number k ≡ i → Limited p n m (length t.proof) (length t.marks) (length t.values) i → Line (clause_form kind) bs at p t w (Err k) t v
+          go i j (within o) = absurd (number_not_zero k j)
+          go i j (beyond o) = record {
             steps = λ f s sh l.
-                refused_in f p (length bs) t t v (judged_line f s (judge_range (limits (lengths_of t)) f s (kind c) (turn f s sh) (high f o))) (all_self s.needs t);
+                refused_in f p (length bs) t t v k
+                (judged_line f s (judge_range (limits (lengths_of t)) f s (kind c) (turn f s sh) (high f o)) ∙ ap (λ i. rules.refuse i s) (sym j)) (all_self s.needs t);
           }
-          go i (full o x) z = record {
+          go i j (full o x) = record {
             steps = λ f s sh l.
-                refused_in f p (length bs) t t v
+                refused_in f p (length bs) t t v k
                 (judged_line f s (judge_room (limits (lengths_of t)) f s (kind c) (turn f s sh) (low f o)
                 (ap (fits (lengths_of t)) (needed sh o)
-                ∙ no_room (lengths_of t) (needs_with p n m) (λ r. x record { range = o; proof = r.proof; marks = r.marks; values = r.values }))))
+                ∙ no_room (lengths_of t) (needs_with p n m) (λ r. x record { range = o; proof = r.proof; marks = r.marks; values = r.values })))
+                ∙ ap (λ i. rules.refuse i (needing s (kind c))) (sym j))
                 (all_self (needing s (kind c)).needs t);
           }
 
       -- the clause is stored
-      module _ (z : k ≡ 0) (u₁ : List ℤ) (e : u₁ ≡ stored bs at p.store t.proof) where
+      module _ (z : 0 ≡ limit_broken p n m (length t.proof) (length t.marks) (length t.values)) (u₁ : List ℤ) (e : u₁ ≡ stored bs at p.store t.proof) where
         passed : Passed p n m (length t.proof) (length t.marks) (length t.values)
-        passed = go k told z
+        passed = go 0 refl (told z)
           where
-            go : (i : ℕ) → Limited p n m (length t.proof) (length t.marks) (length t.values) i → i ≡ 0 → Passed p n m (length t.proof) (length t.marks) (length t.values)
-            go i (within o) z = o
-            go i (beyond o) z = absurd (omega (arith, z))
-            go i (full o x) z = absurd (omega (arith, z))
+            go : (i : ℕ) → i ≡ 0 → Limited p n m (length t.proof) (length t.marks) (length t.values) i → Passed p n m (length t.proof) (length t.marks) (length t.values)
+            go i j (within o) = o
+            go i j (beyond o) = absurd (omega (arith, j))
+            go i j (full o x) = absurd (omega (arith, j))
 
         abbrev t₁ : Tables
         t₁ = tables t.prefix t.matrix t.map u₁ t.marks t.values
@@ -212,11 +236,11 @@ module _ {kind : Lits → CertificateLine} (kk : ClauseKind kind) (bs : List ℕ
               judge_rest (limits (lengths_of t)) f s (kind c) (turn f s sh) (low f passed.range)
               (ap (fits (lengths_of t)) (needed sh passed.range) ∙ clause_room sh n m passed.proof passed.marks passed.values)
 
-        pub clause_judged : {r : Step} {u : Tables} {v : Work} → Judges kind p n m t₁ w r u v → Line (clause_form kind) bs at p t w r u v
+        pub clause_judged : {r : Result Progress Rule} {u : Tables} {v : Work} → Judges kind p n m t₁ w r u v → Line (clause_form kind) bs at p t w r u v
         clause_judged {r} {u} {v} j = record {
           steps = λ f s sh l.
               subst (λ x. Stepped f p (length bs) t x r u v) (sym (judged_line f s (rest sh)))
-              (leads_later ferat_rules ferat_code f p (length bs) t t₁ (kind_judge f s (kind c)) (answer_of r) u v (needs_with p n m) (ends sh) (kept sh)
+              (leads_later ferat_rules ferat_code f p (length bs) t t₁ (kind_judge f s (kind c)) r u v (needs_with p n m) (ends sh) (kept sh)
               (subst (λ i. Stepped f p (length bs) t₁ (kind_judge f s (kind c)) r u v) (same sh)
               (j.steps c (length bs) f s (pending sh) (stored_shown sh) l (count_low seen))));
         }

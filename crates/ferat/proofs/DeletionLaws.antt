@@ -7,10 +7,12 @@ use native.Mathlib.Omega.{arith}
 use lib.Dec.{eqb, leb}
 use lib.ListN.{length, take}
 use borrow.Author.Tests.{eq-eqb, ne_eqb, le-leb, lt-leb, leb-true}
+use Rattle.std.specs.Prelude.{Result, Err, Some, None}
+use Rattle.rules.specs.declared.Rule.{Rule}
+use Rattle.rules.specs.declared.Rule.TheVariants.{Malformed, OutOfRange}
 use Rattle.lines.specs.Scan.{literal_at}
-use Rattle.lines.specs.declared.Literal.{Literal}
 use Rattle.cells.specs.Cells.{up_to}
-use Rattle.lists.specs.declared.Clause.{Clause}
+use Rattle.lists.specs.declared.Measure.{Measure}
 use Rattle.lists.specs.Lists.{lits_at, clause_at}
 use Rattle.lists.specs.Stores.{codes_at, written, in_range}
 use Rattle.lists.proofs.ListLaws.{all_low, listed_low, listed_high, listed_range}
@@ -29,23 +31,22 @@ use Rattle.rules.specs.CertificateLines as lines
 use Rattle.rules.proofs.Kit.{and_l, and_r}
 use Rattle.tables.specs.Tables.{Tables, lengths_of}
 use Rattle.tables.proofs.Frames.{all_self}
-use Rattle.trail.specs.Trail.{Trailed, Undone}
+use Rattle.trail.specs.declared.Trail.{Trail}
+use Rattle.trail.specs.Trail.{TrailedIn, UndoneIn}
 use Rattle.deletion.specs.Deletions.{Listed, MoreBy}
 use Rattle.deletion.proofs.DeletionLaws.{listed_start}
 use Rattle.progress.specs.declared.Progress.{Progress}
-use Rattle.progress.specs.declared.Step.{Step}
-use Rattle.progress.specs.declared.Step.TheVariants.{Refuse}
-use Rattle.progress.specs.Shown.{Work, work, Shown, Stepped}
+use Rattle.progress.specs.declared.Work.{Work}
+use Rattle.progress.specs.Shown.{Shown, Stepped}
 use Rattle.steps.specs.Judges.{kind_judge, Listing, Deletes}
 use Rattle.steps.proofs.JudgeLaws.{judge_range, judge_rest, refused_in}
 use Rattle.steps.proofs.DeleteLaws.{deletion_needs}
-use Rattle.ferat.specs.declared.deletion_lines.LineList.{LineList}
-use Rattle.ferat.specs.Lines.{judged, Line, line_codes, LineListed, ListedBy}
+use Rattle.ferat.specs.Lines.{judged, Line, line_codes, LineListed}
 use Rattle.ferat.proofs.ClauseLaws.{judged_none, judged_some, count_low}
 
 -- THE CODES OF THE LINE, one after the other
 module _ (bs : List ℕ) (i : ℕ) where
-  module _ {x e : ℕ} (h : literal_at bs i ≡ Literal.Of x e) where
+  module _ {x e : ℕ} (h : literal_at bs i ≡ Some (x, e)) where
     pub line_end : x ≡ 0 → line_codes bs i ≡ []
     unfolding line_codes up_to
     line_end z =
@@ -59,9 +60,9 @@ module _ (bs : List ℕ) (i : ℕ) where
         ∙ ap (λ b. map (λ k. k % 65536) (cond b [] (x ∷ up_to (codes_at bs e)))) (ne_eqb x 0 z)
 
 -- the trail so far and what is left of the line are the line
-pub record Partly (bs : List ℕ) (at i : ℕ) (f t : List ℕ) (n : ℕ) : Type 0 where
-  pub listed : Listed f t n
-  pub left : (x : ℕ) → (is_in (take n t) x || is_in (line_codes bs i) x) ≡ is_in (line_codes bs at) x
+pub record Partly (bs : List ℕ) (at i : ℕ) (t : Trail) : Type 0 where
+  pub listed : Listed t.falses t.literals t.length
+  pub left : (x : ℕ) → (is_in (take t.length t.literals) x || is_in (line_codes bs i) x) ≡ is_in (line_codes bs at) x
 
 or_none : (b : Bool) → b || false ≡ b
 or_none true = refl
@@ -72,28 +73,24 @@ or_move true b c = refl
 or_move false b c = refl
 
 module _ (bs : List ℕ) (at : ℕ) where
-  pub listing_start : (f t : List ℕ) → Listed f t 0 → Partly bs at at f t 0
-  listing_start f t h = record { listed = h; left = λ x. refl }
+  pub listing_start : (t : Trail) → Listed t.falses t.literals t.length → t.length ≡ 0 → Partly bs at at t
+  listing_start t h e = record { listed = h; left = λ x. ap (λ n. is_in (take n t.literals) x || is_in (line_codes bs at) x) e }
 
-  pub listing_done : {i : ℕ} {f t : List ℕ} {n : ℕ} → Partly bs at i f t n → line_codes bs i ≡ [] → LineListed bs at f t n
-  listing_done {i} {f} {t} {n} g e = record {
+  pub listing_done : {i : ℕ} {t : Trail} → Partly bs at i t → line_codes bs i ≡ [] → LineListed bs at t
+  listing_done {i} {t} g e = record {
     listed = g.listed;
-    same = λ x. sym (or_none (is_in (take n t) x)) ∙ ap (λ l. is_in (take n t) x || is_in l x) (sym e) ∙ g.left x;
+    same = λ x. sym (or_none (is_in (take t.length t.literals) x)) ∙ ap (λ l. is_in (take t.length t.literals) x || is_in l x) (sym e) ∙ g.left x;
   }
 
-  pub listing_next : {i e l : ℕ} {f t : List ℕ} {n : ℕ} {f' t' : List ℕ} {n' : ℕ} → Partly bs at i f t n → line_codes bs i ≡ l ∷ line_codes bs e
-      → Listed f' t' n' → MoreBy l (take n t) (take n' t') → Partly bs at e f' t' n'
+  pub listing_next : {i e l : ℕ} {t u : Trail} → Partly bs at i t → line_codes bs i ≡ l ∷ line_codes bs e
+      → Listed u.falses u.literals u.length → MoreBy l (take t.length t.literals) (take u.length u.literals) → Partly bs at e u
   unfolding MoreBy
-  listing_next {i} {e} {l} {f} {t} {n} {f'} {t'} {n'} g q h m = record {
+  listing_next {i} {e} {l} {t} {u} g q h m = record {
     listed = h;
     left = λ x.
-        ap (λ b. b || is_in (line_codes bs e) x) (m x) ∙ or_move (is_in (take n t) x) (eqb x l) (is_in (line_codes bs e) x)
-        ∙ ap (λ c. is_in (take n t) x || is_in c x) (sym q) ∙ g.left x;
+        ap (λ b. b || is_in (line_codes bs e) x) (m x) ∙ or_move (is_in (take t.length t.literals) x) (eqb x l) (is_in (line_codes bs e) x)
+        ∙ ap (λ c. is_in (take t.length t.literals) x || is_in c x) (sym q) ∙ g.left x;
   }
-
--- the answer
-pub listed_all : (bs : List ℕ) (at : ℕ) {f t : List ℕ} {r : LineList} {n : ℕ} → r ≡ LineList.All n → ListedBy bs at f t r → LineListed bs at f t n
-listed_all bs at {f} {t} e h = subst (ListedBy bs at f t) e h
 
 -- a list of codes and its end mark
 code_large : (n : ℕ) (l : Lit) → (leb 1 (var l) && leb (var l) n) ≡ true → code_of l ≡ 0 → ⊥
@@ -120,14 +117,17 @@ codes_written (l ∷ c) h =
 
 -- THE LINE
 module _ (bs : List ℕ) (at : ℕ) (p : Progress) (t : Tables) (w : Work) where
-  pub deletion_bad : clause_at bs at ≡ Clause.Bad → (v : Work) → Line (clause_form deletion) bs at p t w (Refuse 2) t v
+  pub deletion_bad : clause_at bs at ≡ None → (v : Work) → Line (clause_form deletion) bs at p t w (Err Malformed) t v
   deletion_bad h v = record {
     steps = λ f s sh l.
-        refused_in f p (length bs) t t v (judged_none (clause_form deletion) bs at t f s (bad_clause bs at h deletion)) (all_self s.needs t);
+        refused_in f p (length bs) t t v Malformed (judged_none (clause_form deletion) bs at t f s (bad_clause bs at h deletion)) (all_self s.needs t);
   }
 
-  module _ {g n m : ℕ} (h : clause_at bs at ≡ Clause.Good g n m) where
-    seen : Seen bs at g n m
+  module _ {q : Measure} (h : clause_at bs at ≡ Some q) where
+    abbrev m : ℕ
+    m = q.largest
+
+    seen : Seen bs at q.negative q.count m
     seen = clause_told bs at h
 
     abbrev c : Lits
@@ -148,16 +148,16 @@ module _ (bs : List ℕ) (at : ℕ) (p : Progress) (t : Tables) (w : Work) where
     unfolding lines.in_range
     high f l = all_low 16384 (vars c) ∙ lt-leb (greatest (vars c)) 16384 (listed_high seen.listing l)
 
-    pub deletion_high : 16384 < m → (v : Work) → Line (clause_form deletion) bs at p t w (Refuse 3) t v
+    pub deletion_high : 16384 < m → (v : Work) → Line (clause_form deletion) bs at p t w (Err OutOfRange) t v
     deletion_high l v = record {
       steps = λ f s sh i.
-          refused_in f p (length bs) t t v (judged_line f s (judge_range (limits (lengths_of t)) f s (deletion c) (order s) (high f l))) (all_self s.needs t);
+          refused_in f p (length bs) t t v OutOfRange (judged_line f s (judge_range (limits (lengths_of t)) f s (deletion c) (order s) (high f l))) (all_self s.needs t);
     }
 
     -- the trail was emptied, and the line's literals were listed on it
-    module _ (l : m ≤ 16384) {f₀ : List ℕ} (undone : Trailed w.falses w.trail p.units.n → 0 ≤ p.units.n → Undone w.falses w.trail 0 f₀)
-        {f₁ t₁ : List ℕ} {k : ℕ} (o : Listed f₀ w.trail 0 → LineListed bs at f₁ t₁ k) {r : Step} {u : Tables} {v : Work}
-        (d : Deletes p k t (work w.starts w.noted f₁ t₁) r u v) where
+    module _ (l : m ≤ 16384) {t₀ t₁ : Trail} (undone : TrailedIn w.trail → 0 ≤ w.trail.length → UndoneIn w.trail 0 t₀)
+        (o : Listed t₀.falses t₀.literals t₀.length → t₀.length ≡ 0 → LineListed bs at t₁) {r : Result Progress Rule} {u : Tables} {v : Work}
+        (d : Deletes p t (record w { trail = t₁ }) r u v) where
       codes_are : line_codes bs at ≡ map code_of c
       unfolding line_codes
       codes_are =
@@ -165,10 +165,17 @@ module _ (bs : List ℕ) (at : ℕ) (p : Progress) (t : Tables) (w : Work) where
           ∙ codes_written c (listed_range seen.listing l (omega arith))
 
       module _ {f : Formula} {s : State} (sh : Shown p t w f s) where
-        listed : LineListed bs at f₁ t₁ k
-        listed = o (listed_start f₀ w.trail (undone sh.held.ready.trailed (omega arith)).trailed)
+        emptied : UndoneIn w.trail 0 t₀
+        emptied = undone sh.held.ready.trailed (omega arith)
 
-        there : Listing c f₁ t₁ k
+        none : Listed t₀.falses t₀.literals t₀.length
+        none =
+            rw (emptied.1, emptied.2) (listed_start t₀.falses w.trail.literals emptied.0.trailed)
+
+        listed : LineListed bs at t₁
+        listed = o none emptied.2
+
+        there : Listing c t₁
         there = record { listed = listed.listed; same = λ x. listed.same x ∙ ap (λ l. is_in l x) codes_are }
 
         rest : judge (limits (lengths_of t)) f s (deletion c) ≡ kind_judge f s (deletion c)
@@ -178,5 +185,5 @@ module _ (bs : List ℕ) (at : ℕ) (p : Progress) (t : Tables) (w : Work) where
       deletion_judged = record {
         steps = λ f s sh i.
             subst (λ x. Stepped f p (length bs) t x r u v) (sym (judged_line f s (rest sh)))
-            (d.steps c (length bs) f s w.falses w.trail (there sh) sh i (omega (arith, count_low seen)));
+            (d.steps c (length bs) f s w.trail (there sh) sh i (omega (arith, count_low seen)));
       }

@@ -8,8 +8,11 @@ use lib.Dec.{leb}
 use lib.ListN.{length, length-map}
 use lib.IntN.{ℤ}
 use borrow.Author.Tests.{le-leb, lt-leb}
+use Rattle.std.specs.Prelude.{Ok, Err, Some, None}
+use Rattle.rules.specs.declared.Rule.TheVariants.{Malformed, OutOfRange, TableFull}
+use Rattle.std.specs.Option.{is_some}
 use Rattle.cells.proofs.Laws.{kept_later}
-use Rattle.lists.specs.declared.Clause.{Clause}
+use Rattle.lists.specs.declared.Measure.{Measure}
 use Rattle.lists.specs.Lists.{lits_at, clause_at}
 use Rattle.lists.specs.Stores.{codes_at, puts}
 use Rattle.lists.proofs.ListLaws.{all_low, listed_low, listed_high, listed_range}
@@ -31,30 +34,36 @@ use Rattle.clauses.specs.Standing.{standing, places_of, literals, proof_need, ma
 use Rattle.clauses.proofs.StoreLaws.{filled_hints, need_above, standing_above}
 use Rattle.propagation.specs.Answers.{Held}
 use Rattle.progress.specs.declared.Progress.{Progress}
-use Rattle.progress.specs.declared.Step.TheVariants.{Next, Refuse}
 use Rattle.progress.specs.Order.{no_hints}
-use Rattle.progress.specs.Shown.{Work, needs_of, Shown, weight, Light, Stepped}
+use Rattle.progress.specs.declared.Work.{Work}
+use Rattle.progress.specs.Shown.{needs_of, Shown, weight, Light, Stepped}
 use Rattle.steps.proofs.JudgeLaws.{judge_order, judge_range, judge_room, judge_rest, judge_next, refused_in, accepted_in}
 use Rattle.progress.proofs.OrderLaws.{order_hints, nothing_before}
 use Rattle.ferat.specs.Lines.{judged, Line, hinted_with, hinted_in}
 use Rattle.ferat.proofs.ClauseLaws.{judged_none, judged_some, count_low}
 
 module _ (bs : List ℕ) (at : ℕ) (p : Progress) (t : Tables) (w : Work) where
-  pub hints_bad : clause_at bs at ≡ Clause.Bad → Line hints_form bs at p t w (Refuse 2) t w
+  pub hints_bad : clause_at bs at ≡ None → Line hints_form bs at p t w (Err Malformed) t w
   hints_bad h = record {
-    steps = λ f s sh l. refused_in f p (length bs) t t w (judged_none hints_form bs at t f s (bad_hints bs at h)) (all_self s.needs t);
+    steps = λ f s sh l. refused_in f p (length bs) t t w Malformed (judged_none hints_form bs at t f s (bad_hints bs at h)) (all_self s.needs t);
   }
 
-  module _ {g n k : ℕ} (h : clause_at bs at ≡ Clause.Good g n k) where
-    seen : Seen bs at g n k
+  module _ {q : Measure} (h : clause_at bs at ≡ Some q) where
+    abbrev n : ℕ
+    n = q.count
+
+    abbrev k : ℕ
+    k = q.largest
+
+    seen : Seen bs at q.negative n k
     seen = clause_told bs at h
 
-    pub hints_signed : (g ≡ 0 → ⊥) → Line hints_form bs at p t w (Refuse 2) t w
+    pub hints_signed : q.negative ≡ true → Line hints_form bs at p t w (Err Malformed) t w
     hints_signed z = record {
-      steps = λ f s sh l. refused_in f p (length bs) t t w (judged_none hints_form bs at t f s (not_hints bs at seen z)) (all_self s.needs t);
+      steps = λ f s sh l. refused_in f p (length bs) t t w Malformed (judged_none hints_form bs at t f s (not_hints bs at seen z)) (all_self s.needs t);
     }
 
-    module _ (z : g ≡ 0) {b : Bool} (q : b ≡ no_hints p) where
+    module _ (z : q.negative ≡ false) {b : Bool} (i : b ≡ no_hints p) where
       abbrev ns : List ℕ
       ns = vars (lits_at bs at)
 
@@ -66,12 +75,12 @@ module _ (bs : List ℕ) (at : ℕ) (p : Progress) (t : Tables) (w : Work) where
 
       order : {f : Formula} {s : State} → Shown p t w f s → in_sequence s (hints ns) ≡ b
       unfolding in_sequence
-      order sh = sym (q ∙ order_hints sh)
+      order sh = sym (i ∙ order_hints sh)
 
-      pub hints_late : b ≡ false → Line hints_form bs at p t w (Refuse 2) t w
+      pub hints_late : b ≡ false → Line hints_form bs at p t w (Err Malformed) t w
       hints_late e = record {
         steps = λ f s sh l.
-            refused_in f p (length bs) t t w (judged_line f s (judge_order (limits (lengths_of t)) f s (hints ns) (order sh ∙ e))) (all_self s.needs t);
+            refused_in f p (length bs) t t w Malformed (judged_line f s (judge_order (limits (lengths_of t)) f s (hints ns) (order sh ∙ e))) (all_self s.needs t);
       }
 
       module _ (y : b ≡ true) where
@@ -79,10 +88,10 @@ module _ (bs : List ℕ) (at : ℕ) (p : Progress) (t : Tables) (w : Work) where
         unfolding in_range
         range {f} sh = all_low f.count ns ∙ ap (leb (greatest ns)) (sym sh.formula.count)
 
-        pub hints_high : p.formula.c < k → Line hints_form bs at p t w (Refuse 3) t w
+        pub hints_high : p.formula.c < k → Line hints_form bs at p t w (Err OutOfRange) t w
         hints_high l = record {
           steps = λ f s sh i.
-              refused_in f p (length bs) t t w
+              refused_in f p (length bs) t t w OutOfRange
               (judged_line f s (judge_range (limits (lengths_of t)) f s (hints ns) (order sh ∙ y)
               (range sh ∙ lt-leb (greatest ns) p.formula.c (listed_high seen.listing l)))) (all_self s.needs t);
         }
@@ -90,7 +99,7 @@ module _ (bs : List ℕ) (at : ℕ) (p : Progress) (t : Tables) (w : Work) where
         module _ (l : k ≤ p.formula.c) where
           -- nothing was stored in the proof table before
           first : {f : Formula} {s : State} → Shown p t w f s → p.store ≡ empty_above 0
-          first sh = let x = nothing_before p (sym q ∙ y) in sh.fresh x.1 x.0
+          first sh = let x = nothing_before p (sym i ∙ y) in sh.fresh x.1 x.0
 
           low : {f : Formula} {s : State} → Shown p t w f s → in_range (limits (lengths_of t)) f (hints ns) ≡ true
           low sh = range sh ∙ le-leb (greatest ns) p.formula.c (listed_low seen.listing l (omega (arith, sh.formula.few)))
@@ -107,10 +116,10 @@ module _ (bs : List ℕ) (at : ℕ) (p : Progress) (t : Tables) (w : Work) where
               ap (λ x. together x (line_needs (hints ns))) sh.needs
               ∙ places_same (omega arith) (omega arith) (omega arith) (omega arith) (omega arith) (omega arith)
 
-          pub hints_full : length t.proof ≤ n → Line hints_form bs at p t w (Refuse 15) t w
+          pub hints_full : length t.proof ≤ n → Line hints_form bs at p t w (Err TableFull) t w
           hints_full m = record {
             steps = λ f s sh i.
-                refused_in f p (length bs) t t w
+                refused_in f p (length bs) t t w TableFull
                 (judged_line f s (judge_room (limits (lengths_of t)) f s (hints ns) (order sh ∙ y) (low sh)
                 (ap (fits (lengths_of t)) (needed sh) ∙ no_room (lengths_of t) wanted (λ r. omega (arith, r.proof, m)))))
                 (all_self (needing s (hints ns)).needs t);
@@ -164,12 +173,12 @@ module _ (bs : List ℕ) (at : ℕ) (p : Progress) (t : Tables) (w : Work) where
                 mapping = sh.mapping;
                 proper = sh.proper;
                 copies = sh.copies;
-                hints = (refl, many, omega (arith, (need_above (n + 1)).0), there.list ∙ plain_codes (lits_at bs at) (sym seen.listing.sign ∙ z));
+                hints = (ap Some many, omega (arith, (need_above (n + 1)).0, many), there.list ∙ plain_codes (lits_at bs at) (sym seen.listing.sign ∙ z));
                 named = listed_range seen.listing l (omega (arith, sh.formula.few));
-                fresh = λ x y. absurd (clear refl y);
+                fresh = λ x y. absurd (clear refl (ap is_some y));
                 clauses = ap literals empty_then ∙ sh.clauses;
                 filled = filled_hints t.proof u t.marks (lits_at bs at) there (omega (arith, m, seen.listing.count)) (ap (λ i. i + 1) seen.listing.count);
-                held = subst (λ S. Held S w.falses w.trail p.units.n) (sym empty_then) sh.held;
+                held = subst (λ S. Held S w.trail.falses w.trail.literals w.trail.length) (sym empty_then) sh.held;
                 expansions = sh.expansions;
                 additions = sh.additions;
                 deletions = sh.deletions;
@@ -186,12 +195,12 @@ module _ (bs : List ℕ) (at : ℕ) (p : Progress) (t : Tables) (w : Work) where
               heavier : weight after ≤ weight p + 3 * length bs
               heavier = let a = need_above (n + 1) in let i = count_low seen in omega (arith, a.0, a.1, i)
 
-              next_state : Stepped f p (length bs) t (judged hints_form bs at t f s) (Next after) v w
+              next_state : Stepped f p (length bs) t (judged hints_form bs at t f s) (Ok after) v w
               next_state =
                   accepted_in f p (length bs) t v w accepted (shown, unfold accept in subst (λ i. KeptAll i t v) (sym (needed sh)) kept, heavier)
 
-            pub hints_next : {q : Progress} → q ≡ hinted_in p n → Line hints_form bs at p t w (Next q) v w
+            pub hints_next : {q : Progress} → q ≡ hinted_in p n → Line hints_form bs at p t w (Ok q) v w
             hints_next {q} i = record {
               steps = λ f s sh x.
-                  subst (λ r. Stepped f p (length bs) t (judged hints_form bs at t f s) (Next r) v w) (sym (i ∙ ap (hinted_with p n) (above sh x))) (next_state sh x);
+                  subst (λ r. Stepped f p (length bs) t (judged hints_form bs at t f s) (Ok r) v w) (sym (i ∙ ap (hinted_with p n) (above sh x))) (next_state sh x);
             }

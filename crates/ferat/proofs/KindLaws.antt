@@ -6,7 +6,7 @@ use mathlib.Core.Option.{Option, none, some}
 use Prim.Native.Nat.{ℕ}
 use Prim.Native.String.{String}
 use lib.Dec.{eqb}
-use borrow.Author.Tests.{eq-eqb, ne_eqb, eqb-true}
+use borrow.Author.Tests.{eqb-true}
 use Rattle.lines.specs.Bytes.{class_of, bytes, same_bytes}
 use Rattle.lines.specs.Lines.{Token, number, minus, word, token_of, read_line}
 use Rattle.lines.specs.declared.Head.{Head}
@@ -25,37 +25,6 @@ use Rattle.tables.specs.Tables.{Tables, lengths_of}
 use Rattle.ferat.specs.Kinds.{picked, letter_kind, kind_of}
 use Rattle.ferat.specs.Lines.{judged}
 use Rattle.ferat.specs.Certificate.{judge_line}
-
--- the code's tests on the letter
-module _ (b e : ℕ) where
-  pub letter_x : b ≡ 120 → Kind.Mapping e ≡ letter_kind b e
-  unfolding letter_kind
-  letter_x h = sym (ap (λ x. picked e x (eqb b 111) (eqb b 101) (eqb b 100)) (eq-eqb b 120 h))
-
-  module _ (x : b ≡ 120 → ⊥) where
-    not_x : letter_kind b e ≡ picked e false (eqb b 111) (eqb b 101) (eqb b 100)
-    unfolding letter_kind
-    not_x = ap (λ y. picked e y (eqb b 111) (eqb b 101) (eqb b 100)) (ne_eqb b 120 x)
-
-    pub letter_o : b ≡ 111 → Kind.Hints e ≡ letter_kind b e
-    letter_o h = sym (not_x ∙ ap (λ y. picked e false y (eqb b 101) (eqb b 100)) (eq-eqb b 111 h))
-
-    module _ (o : b ≡ 111 → ⊥) where
-      not_o : letter_kind b e ≡ picked e false false (eqb b 101) (eqb b 100)
-      not_o = not_x ∙ ap (λ y. picked e false y (eqb b 101) (eqb b 100)) (ne_eqb b 111 o)
-
-      pub letter_e : b ≡ 101 → Kind.Expansion e ≡ letter_kind b e
-      letter_e h = sym (not_o ∙ ap (λ y. picked e false false y (eqb b 100)) (eq-eqb b 101 h))
-
-      module _ (v : b ≡ 101 → ⊥) where
-        not_e : letter_kind b e ≡ picked e false false false (eqb b 100)
-        not_e = not_o ∙ ap (λ y. picked e false false y (eqb b 100)) (ne_eqb b 101 v)
-
-        pub letter_d : b ≡ 100 → Kind.Deletion e ≡ letter_kind b e
-        letter_d h = sym (not_e ∙ ap (picked e false false false) (eq-eqb b 100 h))
-
-        pub letter_none : (b ≡ 100 → ⊥) → Kind.Addition ≡ letter_kind b e
-        letter_none h = sym (not_e ∙ ap (picked e false false false) (ne_eqb b 100 h))
 
 -- a line whose first word is none of the four is read as an addition
 plain_line : (w : List ℕ) (ts : List Token) → same_bytes w (bytes "x") ≡ false → same_bytes w (bytes "o") ≡ false → same_bytes w (bytes "e") ≡ false

@@ -3,6 +3,8 @@ use mathlib.Core.Path.{◌≡◌, sym, ◌∙◌, subst}
 use mathlib.Core.List.{List}
 use mathlib.Core.Option.{Option}
 use Prim.Native.Nat.{ℕ}
+use Rattle.std.specs.Prelude.{Result, Ok}
+use Rattle.rules.specs.declared.Rule.{Rule}
 use Rattle.lines.specs.Lines.{Token}
 use Rattle.lines.specs.Scan.{head_of}
 use Rattle.rules.specs.Formula.{Formula}
@@ -11,10 +13,9 @@ use Rattle.rules.specs.Limits.{limits}
 use Rattle.rules.specs.CertificateLines.{State}
 use Rattle.tables.specs.Tables.{Tables, lengths_of}
 use Rattle.progress.specs.declared.Progress.{Progress}
-use Rattle.progress.specs.declared.Step.{Step}
-use Rattle.progress.specs.declared.Step.TheVariants.{Next}
 use Rattle.reading.proofs.LineLaws as reading
-use Rattle.progress.specs.Shown.{Work, ferat_rules, ferat_code}
+use Rattle.progress.specs.declared.Work.{Work}
+use Rattle.progress.specs.Shown.{ferat_rules, ferat_code}
 use Rattle.ferat.specs.declared.kinds.Kind.{Kind}
 use Rattle.ferat.specs.Kinds.{kind_of}
 use Rattle.ferat.specs.Lines.{judged, Line}
@@ -27,11 +28,11 @@ module _ (bs : List ℕ) {k : Kind} (kind : k ≡ kind_of (head_of bs)) where
   means t f s e = subst (Means bs t f s) (sym kind ∙ e) (kind_means bs t f s)
 
 module _ {bs : List ℕ} {p : Progress} {t : Tables} {w : Work} where
-  pub line_skipped : ((f : Formula) (s : State) → Means bs t f s Kind.Skip) → AnyLine bs p t w (Next p) t w
+  pub line_skipped : ((f : Formula) (s : State) → Means bs t f s Kind.Skip) → AnyLine bs p t w (Ok p) t w
   line_skipped m = reading.line_skipped ferat_rules ferat_code m
 
   -- a line of a form
-  pub line_formed : (form : List Token → Option CertificateLine) (at : ℕ) {r : Step} {u : Tables} {v : Work}
+  pub line_formed : (form : List Token → Option CertificateLine) (at : ℕ) {r : Result Progress Rule} {u : Tables} {v : Work}
       → ((f : Formula) (s : State) → judge_line (limits (lengths_of t)) f s bs ≡ judged form bs at t f s)
       → Line form bs at p t w r u v → AnyLine bs p t w r u v
   line_formed form at m x = reading.line_judged ferat_rules ferat_code (judged form bs at t) m x.steps

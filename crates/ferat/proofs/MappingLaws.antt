@@ -6,9 +6,13 @@ use mathlib.Core.Option.{none, some}
 use Prim.Native.Nat.{ℕ}
 use native.Mathlib.Omega.{arith}
 use lib.ListN.{length}
+use Rattle.std.specs.Prelude.{Result, Ok, Err, Some, None}
+use Rattle.rules.specs.declared.Rule.{Rule}
+use Rattle.rules.specs.declared.Rule.TheVariants.{Malformed}
+use Rattle.std.specs.Prelude as prelude
 use Rattle.lines.specs.Lists.{all}
 use Rattle.lines.specs.Scan.{tokens_from}
-use Rattle.lists.specs.declared.Mapping.{Mapping}
+use Rattle.lists.specs.declared.MappingLists.{MappingLists}
 use Rattle.lists.specs.Lists.{lits_at, mapping_at}
 use Rattle.lists.proofs.FormLaws.{MapsAs, maps}
 use Rattle.rules.specs.Literals.{Lits, vars}
@@ -23,34 +27,31 @@ use Rattle.rules.specs.Step.{◌unless◌, ◌then◌, refuse_in}
 use Rattle.rules.specs.CertificateLines.{State, needing, in_sequence, in_range, kind_rules, accept, judge}
 use Rattle.tables.specs.Tables.{Tables, lengths_of}
 use Rattle.mapping.specs.declared.Mapped.{Mapped}
-use Rattle.mapping.specs.declared.Answer.{Answer}
-use Rattle.mapping.specs.declared.Answer.TheVariants as answer
 use Rattle.mapping.specs.MappingLine.{Lent, after, MappingLine}
 use Rattle.expansion.proofs.ClauseLaws.{prefix_told}
 use Rattle.clauses.specs.Standing.{proof_need, marks_need}
 use Rattle.reading.proofs.MappingLaws as reading
 use Rattle.reading.proofs.MappingLaws.{lent_of, unwritten, room, mapping_needs, mapping_room, room_kept, MapsBy, maps_step}
 use Rattle.progress.specs.declared.Progress.{Progress}
-use Rattle.progress.specs.declared.Step.{Step}
-use Rattle.progress.specs.declared.Step.TheVariants.{Next, Refuse}
 use Rattle.progress.specs.Order.{no_hints}
-use Rattle.progress.specs.Shown.{Work, work, needs_of, Shown, Light, Stepped, ferat_rules, ferat_code}
+use Rattle.progress.specs.declared.Work.{Work}
+use Rattle.progress.specs.Shown.{needs_of, Shown, Light, Stepped, ferat_rules, ferat_code}
 use Rattle.progress.proofs.OrderLaws.{order_hints}
 use Rattle.ferat.specs.Lines.{judged, Line, mapped_in}
 use Rattle.ferat.proofs.ClauseLaws.{judged_none, judged_some}
 
 -- the step that an answer is
-abbrev step_of : Progress → Answer → Step
-step_of p (answer.Next m) = Next (mapped_in p m)
-step_of p (answer.Refuse k) = Refuse k
+abbrev step_of : Progress → Result Mapped Rule → Result Progress Rule
+step_of p (Ok m) = Ok (mapped_in p m)
+step_of p (Err k) = Err k
 
-module _ (bs : List ℕ) (at : ℕ) (p : Progress) (t : Tables) (w : Work) (turn : Bool) (q : turn ≡ no_hints p) (r : Answer) (u : Lent)
+module _ (bs : List ℕ) (at : ℕ) (p : Progress) (t : Tables) (w : Work) (turn : Bool) (q : turn ≡ no_hints p) (r : Result Mapped Rule) (u : Lent)
     (x : MappingLine bs at turn p.formula.v p.mapped t.prefix (lent_of t w.noted) r u) where
   abbrev t₁ : Tables
   t₁ = reading.mapped_in t u
 
   abbrev noting : List ℕ → Work
-  noting noted = work w.starts noted w.falses w.trail
+  noting noted = record w { noted = noted }
 
   -- a line of no form
   malformed : mapping_form (tokens_from bs at) ≡ none → Line mapping_form bs at p t w (step_of p r) t₁ (noting u.noted)
@@ -58,7 +59,7 @@ module _ (bs : List ℕ) (at : ℕ) (p : Progress) (t : Tables) (w : Work) (turn
     steps = λ f s sh l.
         let e = x.malformed h in
         subst (λ a. Stepped f p (length bs) t (judged mapping_form bs at t f s) (step_of p a) t₁ (noting u.noted)) (sym e.0)
-        (subst (λ y. Stepped f p (length bs) t y (Refuse 2) t₁ (noting u.noted)) (sym (judged_none mapping_form bs at t f s h))
+        (subst (λ y. Stepped f p (length bs) t y (Err Malformed) t₁ (noting u.noted)) (sym (judged_none mapping_form bs at t f s h))
         (refl, unwritten t w.noted u s.needs e.1));
   }
 
@@ -133,22 +134,25 @@ module _ (bs : List ℕ) (at : ℕ) (p : Progress) (t : Tables) (w : Work) (turn
       weight = λ g. omega (arith, g);
     }
 
-    stepped : (y : Answer) → r ≡ y → Stepped f p (length bs) t (judged mapping_form bs at t f s) (step_of p y) t₁ (noting u.noted)
-    stepped (answer.Next z) e = maps_step ferat_rules ferat_code kind u refl at (subst (λ y. MappingLine bs at turn p.formula.v p.mapped t.prefix (lent_of t w.noted) y u) e x) h
-    stepped (answer.Refuse k) e = maps_step ferat_rules ferat_code kind u refl at (subst (λ y. MappingLine bs at turn p.formula.v p.mapped t.prefix (lent_of t w.noted) y u) e x) h
+    stepped : (y : Result Mapped Rule) → r ≡ y → Stepped f p (length bs) t (judged mapping_form bs at t f s) (step_of p y) t₁ (noting u.noted)
+    stepped (Ok z) e = maps_step ferat_rules ferat_code kind u refl at (subst (λ y. MappingLine bs at turn p.formula.v p.mapped t.prefix (lent_of t w.noted) y u) e x) h
+    stepped (Err k) e = maps_step ferat_rules ferat_code kind u refl at (subst (λ y. MappingLine bs at turn p.formula.v p.mapped t.prefix (lent_of t w.noted) y u) e x) h
 
   mapping_line : Line mapping_form bs at p t w (step_of p r) t₁ (noting u.noted)
   mapping_line = go (mapping_at bs at) (maps bs at)
     where
-      go : (y : Mapping) → MapsAs bs at y → Line mapping_form bs at p t w (step_of p r) t₁ (noting u.noted)
-      go (Mapping.Lists k m a b l i h) o =
-          record { steps = λ f s sh z. stepped (vars (lits_at bs at)) (vars (lits_at bs i)) (lits_at bs h) o.form sh z r refl }
-      go Mapping.Bad o = malformed o
+      go : (y : prelude.Option MappingLists) → MapsAs bs at y → Line mapping_form bs at p t w (step_of p r) t₁ (noting u.noted)
+      go (Some q) o =
+          record { steps = λ f s sh z. stepped (vars (lits_at bs at)) (vars (lits_at bs q.existentials_at)) (lits_at bs q.literals_at) o.form sh z r refl }
+      go None o = malformed o
 
-  pub mapping_refused : {k : ℕ} → r ≡ answer.Refuse k → Line mapping_form bs at p t w (Refuse k) t₁ (noting u.noted)
-  mapping_refused e = subst (λ a. Line mapping_form bs at p t w (step_of p a) t₁ (noting u.noted)) e mapping_line
+  -- the tables are the tables before, with the map and the values written
+  pub mapping_refused : {k : Rule} → r ≡ Err k → {z : Tables} → z ≡ t₁ → Line mapping_form bs at p t w (Err k) z (noting u.noted)
+  mapping_refused {k} e g =
+      subst (λ z. Line mapping_form bs at p t w (Err k) z (noting u.noted)) (sym g)
+      (subst (λ a. Line mapping_form bs at p t w (step_of p a) t₁ (noting u.noted)) e mapping_line)
 
-  pub mapping_next : {m : Mapped} → r ≡ answer.Next m → {y : Progress} → y ≡ mapped_in p m → Line mapping_form bs at p t w (Next y) t₁ (noting u.noted)
-  mapping_next e g =
-      subst (λ y. Line mapping_form bs at p t w (Next y) t₁ (noting u.noted)) (sym g)
+  pub mapping_next : {m : Mapped} → r ≡ Ok m → {z : Tables} → z ≡ t₁ → Line mapping_form bs at p t w (Ok (mapped_in p m)) z (noting u.noted)
+  mapping_next {m} e g =
+      subst (λ z. Line mapping_form bs at p t w (Ok (mapped_in p m)) z (noting u.noted)) (sym g)
       (subst (λ a. Line mapping_form bs at p t w (step_of p a) t₁ (noting u.noted)) e mapping_line)

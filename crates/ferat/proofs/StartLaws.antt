@@ -1,6 +1,5 @@
 -- Before the first line of the certificate. Assumes nothing.
 use mathlib.Core.Path.{◌≡◌, refl, ap, sym, subst}
-use mathlib.Core.List.{List}
 use Prim.Native.Nat.{ℕ}
 use native.Mathlib.Omega.{arith}
 use lib.ListN.{length, replicate, length-replicate}
@@ -11,7 +10,7 @@ use Rattle.rules.proofs.ProperLaw.{proper_start}
 use Rattle.tables.specs.Tables.{Tables, lengths_of}
 use Rattle.tables.proofs.Rooms.{room_fits, places_same}
 use Rattle.formula.specs.declared.Reading.{Reading}
-use Rattle.formula.specs.Holds.{proper, Holds}
+use Rattle.formula.specs.Holds.{Holds}
 use Rattle.formula.specs.Shown.{FormulaShown}
 use Rattle.formula.proofs.ShownLaws.{formula_shown}
 use Rattle.mapping.proofs.LineLaws.{shown_start as none-mapped}
@@ -19,9 +18,11 @@ use Rattle.matrix.specs.Index.{Indexed, index_of}
 use Rattle.matrix.proofs.IndexLaws.{clauses_indexed}
 use Rattle.clauses.specs.Standing.{standing, places_of, literals, empty_above}
 use Rattle.clauses.proofs.StoreLaws.{filled_above, need_above, standing_above}
-use Rattle.trail.proofs.TrailLaws.{ready_start}
+use Rattle.trail.specs.Trail.{Ready, ReadyIn}
+use Rattle.propagation.specs.Answers.{Held}
 use Rattle.propagation.proofs.MoveLaws.{held_empty}
-use Rattle.progress.specs.Shown.{work, needs_of, Shown, weight}
+use Rattle.progress.specs.declared.Work.{Work}
+use Rattle.progress.specs.Shown.{needs_of, Shown, weight}
 use Rattle.ferat.specs.Check.{begun}
 
 module _ (r : Reading) (t : Tables) (f : Formula) (h : Holds r t.prefix t.matrix f) (w : length f.matrix ≡ r.c) where
@@ -29,13 +30,13 @@ module _ (r : Reading) (t : Tables) (f : Formula) (h : Holds r t.prefix t.matrix
   shown = formula_shown r t.prefix t.matrix f h w
 
   -- NOTHING IS READ YET, and the working memory is of zeros but for the index
-  pub shown_start : {starts : List ℕ} → starts ≡ index_of t.matrix r.used (replicate 8193 0)
-      → Shown (begun r) t (work starts (replicate 16385 0) (replicate 65536 0) (replicate 65536 0)) f (start f)
+  pub shown_start : {m : Work} → m.starts ≡ index_of t.matrix r.used (replicate 8193 0) → m.noted ≡ replicate 16385 0 → ReadyIn m.trail
+      → m.trail.length ≡ 0 → Shown (begun r) t m f (start f)
   unfolding formula_needs
-  shown_start e = record {
+  shown_start {m} e i ready none = record {
     formula = shown;
     indexed = subst (λ l. Indexed l f) (sym e) (clauses_indexed shown (replicate 8193 0) (length-replicate {A = ℕ} 8193 0));
-    mapping = none-mapped t.map t.values;
+    mapping = rw i (none-mapped t.map t.values);
     proper = proper_start f;
     copies = omega arith;
     hints = refl;
@@ -44,8 +45,9 @@ module _ (r : Reading) (t : Tables) (f : Formula) (h : Holds r t.prefix t.matrix
     clauses = ap literals (standing_above t.proof t.marks 0);
     filled = filled_above t.proof t.marks 0 (λ z. absurd (omega arith));
     held =
-        held_empty (standing t.proof t.marks (places_of (empty_above 0))) (replicate 65536 0) (replicate 65536 0)
-        (ready_start (replicate 65536 0) (length-replicate {A = ℕ} 65536 0));
+        subst (Held (standing t.proof t.marks (places_of (empty_above 0))) m.trail.falses m.trail.literals) (sym none)
+        (held_empty (standing t.proof t.marks (places_of (empty_above 0))) m.trail.falses m.trail.literals
+        (subst (Ready m.trail.falses m.trail.literals) none ready));
     expansions = refl;
     additions = refl;
     deletions = refl;

@@ -1,14 +1,15 @@
 -- The promise of the check. Assumes nothing.
-use Rattle.std.specs.Prelude.{false, List, ℕ}
+use Rattle.std.specs.Prelude.{List, ℕ, refl, None}
+use Rattle.rules.specs.CertificateLines.{read_certificate}
 use Rattle.rules.specs.Verdict.{check, FeratNumber, Ranged}
 use Rattle.rules.specs.declared.Report.{Report}
 use Rattle.tables.specs.Tables.{Tables}
 use Rattle.tables.specs.Checked.{CheckedBy}
 use Rattle.formula.specs.declared.Reading.{Reading}
-use Rattle.clauses.specs.declared.Store.{Store}
 use Rattle.clauses.specs.Standing.{empty_above}
 use Rattle.reading.specs.declared.Ended.{Ended}
 use Rattle.reading.specs.Lines as reading
+use Rattle.certificates.specs.Check.{BothFiles}
 use Rattle.progress.specs.declared.Progress.{Progress}
 use Rattle.progress.specs.Shown.{ferat_rules}
 
@@ -16,19 +17,21 @@ use Rattle.progress.specs.Shown.{ferat_rules}
 abbrev pub CheckedIn : List ℕ → List ℕ → Tables → Report → Tables → Type 0
 CheckedIn formula certificate = CheckedBy (λ l. check l formula certificate) (Ranged FeratNumber formula certificate)
 
+-- the rules over both files read the certificate by the rules of the kind
+pub ferat_by_rules : BothFiles ferat_rules check
+unfolding check read_certificate
+ferat_by_rules l formula certificate = refl
+
 -- WITHIN THE CRATE: nothing of the certificate is read yet
-abbrev pub begun_with : Reading → Store → Progress
-begun_with r s = record {
+abbrev pub begun : Reading → Progress
+begun r = record {
   formula = r;
   mapped = record { used = 0; largest = 0 };
-  hinted = record { given = false; count = 0 };
-  store = s;
-  units = record { n = 0; q = 0 };
+  hinted = None;
+  store = empty_above 0;
+  followed = 0;
   counts = record { expansions = 0; additions = 0; deletions = 0 };
 }
-
-abbrev pub begun : Reading → Progress
-begun r = begun_with r (empty_above 0)
 
 -- the certificate of each formula that the tables hold, with as many clauses as it says
 abbrev pub FormulaChecked : List ℕ → Reading → Tables → Ended → Tables → Type 0

@@ -1,111 +1,111 @@
-// The certificate's lines one after the other.
-ghost use Rattle.std.specs.Prelude.{◌≤◌, length};
-ghost use Rattle.tables.specs.Tables.{six};
-ghost use Rattle.progress.specs.Shown.{four};
-ghost use Rattle.ferat.specs.Certificate.{AnyLine, CertificateRead};
+// What a FERAT certificate has of its own: its lines, its end, and the working memory of its check.
+ghost use Rattle.std.specs.Prelude.{◌≡◌};
+ghost use Rattle.rules.specs.CertificateLines.{State};
+ghost use Rattle.rules.specs.Verdict.{check, FeratNumber};
+ghost use Rattle.rules.proofs.Ranges.{check_ranged};
+ghost use Rattle.progress.specs.Shown.{ferat_rules, ferat_code};
+ghost use Rattle.progress.proofs.AptLaws.{ferat_apt};
+ghost use Rattle.ferat.specs.Check.{ferat_by_rules, begun};
 
 use crate::clause_lines::{addition_line, expansion_line};
 use crate::deletion_lines::deletion_line;
 use crate::hint_lines::hints_line;
-use crate::kinds::{Kind, kind_of};
+use crate::kinds::{Kind as Line, kind_of};
 use crate::mapping_lines::mapping_line;
-use mapped::Noted;
-use matrix::Starts;
-use progress::{Progress, Step};
-use propagation::Watches;
-use reading::Ended;
-use trail::{Falses, Trail};
+use certificates::{Checker, Kind};
+use formula::Reading;
+use mapping::Mapped;
+use progress::{Progress, Work};
+use propagation::{END, Watches};
+use reading::{Counts, Ended};
+use rules::Rule;
+use tables::LentTables;
+use trail::Trail;
 
-// One line.
-fn certificate_line(
-    line: &[u8],
-    p: Progress,
-    prefix: &[i32],
-    matrix: &[i32],
-    map: &mut [i32],
-    proof: &mut [i32],
-    marks: &mut [i32],
-    values: &mut [i32],
-    starts: &Starts,
-    noted: &mut Noted,
-    falses: &mut Falses,
-    trail: &mut Trail,
-    watches: &mut Watches,
-) -> Step
-    ensures { AnyLine line.now p
-        (six prefix.now matrix.now map.old proof.old marks.old values.old)
-        (four starts.now noted.old falses.old trail.old) result
-        (six prefix.now matrix.now map.new proof.new marks.new values.new)
-        (four starts.now noted.new falses.new trail.new) }
-{
-    match kind_of(line) {
-        Kind::Skip => Step::Next(p),
-        Kind::Mapping(e) => mapping_line(line, e, p, prefix, map, values, noted),
-        Kind::Hints(e) => hints_line(line, e, p, proof),
-        Kind::Expansion(e) => expansion_line(
-            line, e, p, prefix, matrix, map, proof, marks, values, starts, noted, falses, trail,
-            watches,
-        ),
-        Kind::Deletion(e) => deletion_line(line, e, p, proof, marks, falses, trail),
-        Kind::Addition => addition_line(line, p, proof, marks, values, falses, trail, watches),
+// FERAT.
+pub struct Ferat;
+
+impl Kind for Ferat {
+    type Progress = Progress;
+
+    type Work = Work;
+
+    ghost State = { State };
+
+    ghost rules = { ferat_rules };
+
+    ghost code = { ferat_code };
+
+    ghost apt = { ferat_apt };
+
+    fn line(
+        line: &[u8],
+        p: Progress,
+        tables: &mut LentTables,
+        work: &mut Work,
+    ) -> Result<Progress, Rule> {
+        match kind_of(line) {
+            Line::Skip => Ok(p),
+            Line::Mapping(at) => mapping_line(line, at, p, tables, work),
+            Line::Hints(at) => hints_line(line, at, p, tables),
+            Line::Expansion(at) => expansion_line(line, at, p, tables, work),
+            Line::Deletion(at) => deletion_line(line, at, p, tables, work),
+            Line::Addition => addition_line(line, p, tables, work),
+        }
+    }
+
+    fn end(p: Progress, tables: &LentTables) -> Result<(), Rule> {
+        progress::end_broken(p, tables.proof, tables.marks)
+    }
+
+    fn counts(p: Progress) -> Counts {
+        p.counts
     }
 }
 
-// The lines one after the other, and the end.
-pub fn read_certificate(
-    certificate: &[u8],
-    p: Progress,
-    prefix: &[i32],
-    matrix: &[i32],
-    map: &mut [i32],
-    proof: &mut [i32],
-    marks: &mut [i32],
-    values: &mut [i32],
-    starts: &Starts,
-    noted: &mut Noted,
-    falses: &mut Falses,
-    trail: &mut Trail,
-    watches: &mut Watches,
-) -> Ended
-    requires { length certificate.now ≤ 1048576 }
-    ensures { CertificateRead certificate.now p
-        (six prefix.now matrix.now map.old proof.old marks.old values.old)
-        (four starts.now noted.old falses.old trail.old) result
-        (six prefix.now matrix.now map.new proof.new marks.new values.new) }
+// Nothing of the certificate is read yet.
+fn begin(r: Reading) -> Progress
+    ensures { result ≡ begun r }
 {
-    let mut q = p;
-    let mut at = 0;
-    let mut n: u32 = 1;
-    loop {
-        let e = lines::line_end(certificate, at);
-        match certificate_line(
-            &certificate[at..e],
-            q,
-            prefix,
-            matrix,
-            map,
-            proof,
-            marks,
-            values,
-            starts,
-            noted,
-            falses,
-            trail,
-            watches,
-        ) {
-            Step::Next(t) => {
-                q = t;
-            }
-            Step::Refuse(k) => {
-                let counts = q.counts;
-                return Ended::Refused(k, n, counts);
-            }
-        }
-        if certificate.len() <= e {
-            let counts = q.counts;
-            return reading::at_end(progress::end_broken(q, proof, marks), counts);
-        }
-        at = e + 1;
-        n += 1;
+    Progress {
+        formula: r,
+        mapped: Mapped {
+            used: 0,
+            largest: 0,
+        },
+        hinted: None,
+        store: clauses::above(0),
+        followed: 0,
+        counts: Counts::default(),
+    }
+}
+
+impl Checker for Ferat {
+    ghost checked = { check };
+
+    ghost Number = { FeratNumber };
+
+    ghost of_both_files = { ferat_by_rules };
+
+    ghost in_range = { check_ranged };
+
+    fn certificate(certificate: &[u8], r: Reading, tables: &mut LentTables) -> Ended {
+        let mut work = Work {
+            starts: [0; 8193],
+            noted: [0; 16385],
+            trail: Trail {
+                falses: [0; 65536],
+                literals: [0; 65536],
+                length: 0,
+            },
+            watches: Watches {
+                first: [END; 65536],
+                next: [END; 262144],
+                pair: [END; 131072],
+            },
+        };
+        let clauses = &mut *tables.matrix;
+        matrix::index_clauses(clauses, r.used, &mut work.starts);
+        certificates::read_certificate::<Ferat>(certificate, begin(r), tables, &mut work)
     }
 }

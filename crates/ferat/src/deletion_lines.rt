@@ -1,44 +1,30 @@
 // The deletion line.
-ghost use Rattle.std.specs.Prelude.{◌≡◌, false};
+ghost use Rattle.std.specs.Prelude.{◌≡◌, true, false};
 ghost use Rattle.lists.specs.Lists.{is_list};
 ghost use Rattle.rules.specs.Forms.{clause_form, deletion};
-ghost use Rattle.tables.specs.Tables.{Tables};
-ghost use Rattle.progress.specs.Shown.{Work};
-ghost use Rattle.steps.specs.Judges.{among, beside};
-ghost use Rattle.deletion.specs.Deletions.{Listed};
-ghost use Rattle.ferat.specs.declared.deletion_lines.LineList.{LineList};
-ghost use Rattle.ferat.specs.Lines.{Line, ListedBy};
+ghost use Rattle.tables.specs.Lent.{tables_of, SameLent};
+ghost use Rattle.deletion.specs.Deletions.{ListedIn};
+ghost use Rattle.ferat.specs.Lines.{Line, LineListed};
 
-use lines::Literal;
-use lists::Clause;
-use progress::{Progress, Step};
-use trail::{Falses, Trail};
+use lines::Literals;
+use mapped::COPIES;
+use progress::{Progress, Work};
+use rules::Rule;
+use tables::LentTables;
+use trail::Trail;
 
-// The literals of a line are listed, with the trail's length; or a token is no literal.
-#[derive(Clone, Copy)]
-pub enum LineList {
-    All(usize),
-    Bad,
-}
-
-// Puts the line's literals from a place on onto the empty trail, each once.
-fn list_line(line: &[u8], at: usize, falses: &mut Falses, trail: &mut Trail) -> LineList
-    ensures { (Listed falses.old trail.old 0
-        → ListedBy line.now at falses.new trail.new result)
-        × (result ≡ LineList.Bad → is_list line.now at ≡ false) }
+// Puts the line's literals from a place on onto the empty trail, each once; false at a token that is no literal.
+fn list_line(line: &[u8], at: usize, trail: &mut Trail) -> bool
+    ensures listed { ListedIn trail.old → trail.old.length ≡ 0 → result ≡ true → LineListed line.now at trail.new }
+    ensures bad { result ≡ false → is_list line.now at ≡ false }
 {
-    let mut i = at;
-    let mut n: usize = 0;
-    loop {
-        let Literal::Of(x, e) = lines::literal_at(line, i) else {
-            return LineList::Bad;
-        };
+    for (x, _) in Literals::new(line, at) {
         if x == 0 {
-            return LineList::All(n);
+            return true;
         }
-        n = deletion::list_literal(falses, trail, n, x % 65536);
-        i = e;
+        deletion::list_literal(trail, x % 65536);
     }
+    false
 }
 
 // `d` literals `0`. Its literals are written into no table: they are listed on the trail, which is emptied first.
@@ -46,24 +32,22 @@ pub fn deletion_line(
     line: &[u8],
     at: usize,
     p: Progress,
-    proof: &[i32],
-    marks: &mut [i32],
-    falses: &mut Falses,
-    trail: &mut Trail,
-) -> Step
-    ensures { (t : Tables) (w : Work) → Line (clause_form deletion) line.now at p
-        (among t proof.now marks.old) (beside w falses.old trail.old) result
-        (among t proof.now marks.new) (beside w falses.new trail.new) }
+    tables: &mut LentTables,
+    work: &mut Work,
+) -> Result<Progress, Rule>
+    ensures read { Line (clause_form deletion) line.now at p
+        (tables_of tables.old) work.old result (tables_of tables.new) work.new }
+    ensures marks { tables_of tables.new ≡ record (tables_of tables.old) { marks = (tables_of tables.new).marks } }
+    ensures trail { work.new ≡ record work.old { trail = work.new.trail } }
+    ensures lent { SameLent tables.old tables.new }
 {
-    let Clause::Good(_, _, m) = lists::clause_at(line, at) else {
-        return Step::Refuse(2);
-    };
-    if 16384 < m {
-        return Step::Refuse(3);
+    let measure = lists::clause_at(line, at).ok_or(Rule::Malformed)?;
+    if COPIES < measure.largest as usize {
+        return Err(Rule::OutOfRange);
     }
-    trail::undo(falses, trail, p.units.n, 0);
-    let LineList::All(n) = list_line(line, at, falses, trail) else {
-        return Step::Refuse(2);
-    };
-    steps::delete(p, n, proof, marks, falses, trail)
+    work.trail.undo(0);
+    if !list_line(line, at, &mut work.trail) {
+        return Err(Rule::Malformed);
+    }
+    steps::delete(p, tables, work)
 }

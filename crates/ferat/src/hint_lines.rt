@@ -1,56 +1,49 @@
 // The `o` line.
 ghost use Rattle.std.specs.Prelude.{◌≡◌};
 ghost use Rattle.rules.specs.Forms.{hints_form};
-ghost use Rattle.tables.specs.Tables.{Tables};
-ghost use Rattle.progress.specs.Shown.{Work};
-ghost use Rattle.ferat.specs.Lines.{Line, hinted_in, with_proof};
+ghost use Rattle.tables.specs.Lent.{tables_of, SameLent};
+ghost use Rattle.progress.specs.declared.Work.{Work};
+ghost use Rattle.ferat.specs.Lines.{Line, hinted_in};
 
-use lists::{Clause, Ending};
-use progress::{Hinted, Progress, Step};
+use progress::Progress;
+use rules::Rule;
+use tables::LentTables;
 
 // The progress after n hints, which the store stands above.
 fn with_hints(p: Progress, n: usize) -> Progress
     ensures { result ≡ hinted_in p n }
 {
-    let formula = p.formula;
-    let mapped = p.mapped;
-    let units = p.units;
-    let counts = p.counts;
     Progress {
-        formula,
-        mapped,
-        hinted: Hinted {
-            given: true,
-            count: n,
-        },
+        hinted: Some(n),
         store: clauses::above(n % 1073741824 + 1),
-        units,
-        counts,
+        ..p
     }
 }
 
 // `o n1..nj 0`: the hints are stored at the start of the proof table.
-pub fn hints_line(line: &[u8], at: usize, p: Progress, proof: &mut [i32]) -> Step
-    ensures { (t : Tables) (w : Work) → Line hints_form line.now at p
-        (with_proof t proof.old) w result (with_proof t proof.new) w }
+pub fn hints_line(
+    line: &[u8],
+    at: usize,
+    p: Progress,
+    tables: &mut LentTables,
+) -> Result<Progress, Rule>
+    ensures read { (w : Work) → Line hints_form line.now at p (tables_of tables.old) w result (tables_of tables.new) w }
+    ensures rest { tables_of tables.new ≡ record (tables_of tables.old) { proof = (tables_of tables.new).proof } }
+    ensures lent { SameLent tables.old tables.new }
 {
-    let Clause::Good(s, n, m) = lists::clause_at(line, at) else {
-        return Step::Refuse(2);
-    };
-    if s != 0 {
-        return Step::Refuse(2);
+    let measure = lists::clause_at(line, at).ok_or(Rule::Malformed)?;
+    if measure.negative {
+        return Err(Rule::Malformed);
     }
-    if progress::before_hints(p) {
-        if p.formula.c < m {
-            return Step::Refuse(3);
-        }
-        if proof.len() <= n {
-            return Step::Refuse(15);
-        }
-        let Ending::Zero = lists::store_list(line, at, proof, 0) else {
-            return Step::Refuse(2);
-        };
-        return Step::Next(with_hints(p, n));
+    if !progress::before_hints(p) {
+        return Err(Rule::Malformed);
     }
-    Step::Refuse(2)
+    if p.formula.c < measure.largest {
+        return Err(Rule::OutOfRange);
+    }
+    if tables.proof.len() <= measure.count {
+        return Err(Rule::TableFull);
+    }
+    lists::store_list(line, at, tables.proof, 0)?;
+    Ok(with_hints(p, measure.count))
 }

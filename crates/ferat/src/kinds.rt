@@ -1,7 +1,7 @@
 // What a line of the certificate is, by its first word.
 ghost use Rattle.std.specs.Prelude.{◌≡◌};
 ghost use Rattle.lines.specs.Scan.{head_of};
-ghost use Rattle.ferat.specs.Kinds.{letter_kind, kind_of};
+ghost use Rattle.ferat.specs.Kinds.{kind_of};
 
 use lines::Head;
 
@@ -16,30 +16,16 @@ pub enum Kind {
     Addition,
 }
 
-fn by_letter(b: u8, e: usize) -> Kind
-    ensures { result ≡ letter_kind b e }
-{
-    if b == 120 {
-        return Kind::Mapping(e);
-    }
-    if b == 111 {
-        return Kind::Hints(e);
-    }
-    if b == 101 {
-        return Kind::Expansion(e);
-    }
-    if b == 100 {
-        return Kind::Deletion(e);
-    }
-    Kind::Addition
-}
-
+#[tactic(auto, unfolding(crate::specs::Kinds::letter_kind))]
 pub fn kind_of(line: &[u8]) -> Kind
     ensures { result ≡ kind_of (head_of line.now) }
 {
     match lines::line_head(line) {
         Head::Skipped => Kind::Skip,
-        Head::Letter(b, e) => by_letter(b, e),
-        Head::Other => Kind::Addition,
+        Head::Letter(b'x', e) => Kind::Mapping(e),
+        Head::Letter(b'o', e) => Kind::Hints(e),
+        Head::Letter(b'e', e) => Kind::Expansion(e),
+        Head::Letter(b'd', e) => Kind::Deletion(e),
+        Head::Letter(_, _) | Head::Other => Kind::Addition,
     }
 }

@@ -1,61 +1,38 @@
 // The mapping line.
 ghost use Rattle.std.specs.Prelude.{◌≡◌};
 ghost use Rattle.rules.specs.Forms.{mapping_form};
-ghost use Rattle.tables.specs.Tables.{Tables};
-ghost use Rattle.progress.specs.Shown.{Work};
-ghost use Rattle.ferat.specs.Lines.{Line, mapped_in, with_map, with_noted};
+ghost use Rattle.tables.specs.Lent.{tables_of, SameLent};
+ghost use Rattle.ferat.specs.Lines.{Line};
 
-use mapped::Noted;
-use mapping::{Answer, Mapped};
-use progress::{Progress, Step};
-
-// The progress after a mapping line.
-fn with_mapping(p: Progress, mapped: Mapped) -> Progress
-    ensures { result ≡ mapped_in p mapped }
-{
-    let formula = p.formula;
-    let hinted = p.hinted;
-    let store = p.store;
-    let units = p.units;
-    let counts = p.counts;
-    Progress {
-        formula,
-        mapped,
-        hinted,
-        store,
-        units,
-        counts,
-    }
-}
+use progress::{Progress, Work};
+use rules::Rule;
+use tables::LentTables;
 
 // `x P1..Pk 0 E1..Ek 0 L1..Lm 0`, from the place after its letter on.
 pub fn mapping_line(
     line: &[u8],
     at: usize,
     p: Progress,
-    prefix: &[i32],
-    map: &mut [i32],
-    values: &mut [i32],
-    noted: &mut Noted,
-) -> Step
-    ensures { (t : Tables) (w : Work) → Line mapping_form line.now at p
-        (with_map t prefix.now map.old values.old) (with_noted w noted.old) result
-        (with_map t prefix.now map.new values.new) (with_noted w noted.new) }
+    tables: &mut LentTables,
+    work: &mut Work,
+) -> Result<Progress, Rule>
+    ensures read { Line mapping_form line.now at p
+        (tables_of tables.old) work.old result (tables_of tables.new) work.new }
+    ensures rest { tables_of tables.new ≡ record (tables_of tables.old)
+        { map = (tables_of tables.new).map; values = (tables_of tables.new).values } }
+    ensures noted { work.new ≡ record work.old { noted = work.new.noted } }
+    ensures lent { SameLent tables.old tables.new }
 {
-    let open = progress::before_hints(p);
-    let state = p.mapped;
-    match mapping::mapping_line(
-        line,
-        at,
-        open,
-        p.formula.v,
-        state,
-        prefix,
-        map,
-        values,
-        noted,
-    ) {
-        Answer::Refuse(k) => Step::Refuse(k),
-        Answer::Next(m) => Step::Next(with_mapping(p, m)),
-    }
+    Ok(Progress {
+        mapped: mapping::mapping_line(
+            line,
+            at,
+            progress::before_hints(p),
+            p.formula.v,
+            p.mapped,
+            tables,
+            &mut work.noted,
+        )?,
+        ..p
+    })
 }

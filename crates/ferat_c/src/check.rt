@@ -3,6 +3,8 @@ ghost use Rattle.tables.specs.Tables.{six};
 ghost use Rattle.ferat.specs.Check.{CheckedIn};
 ghost use Rattle.ferat_c.specs.Numbers.{CheckedNumbers};
 
+use tables::LentTables;
+
 // THE CHECK, its seven fields as numbers: the word as 1 (accepted) or 2 (refused), number, file, line, and the three counts.
 #[unsafe(no_mangle)]
 pub extern "C" fn hutsvida_check(
@@ -20,14 +22,13 @@ pub extern "C" fn hutsvida_check(
         (six prefix.old matrix.old map.old proof.old marks.old values.old) seven.new
         (six prefix.new matrix.new map.new proof.new marks.new values.new) }
 {
-    *seven = report::numbers(ferat::check(
-        formula,
-        certificate,
+    let mut tables = LentTables {
         prefix,
         matrix,
         map,
         proof,
         marks,
         values,
-    ));
+    };
+    *seven = report::numbers(ferat::check(formula, certificate, &mut tables));
 }

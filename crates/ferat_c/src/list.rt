@@ -2,6 +2,8 @@
 ghost use Rattle.tables.specs.Tables.{six};
 ghost use Rattle.checks.specs.All.{CheckedAll};
 
+use tables::LentTables;
+
 // THE LIST: files packed one after the other, two ends and a kind for each check (1 FERAT, 2 FERP); seven numbers for each, as those of the
 // checks, or zeros where no kind is named.
 #[unsafe(no_mangle)]
@@ -21,7 +23,13 @@ pub extern "C" fn hutsvida_check_all(
         (six prefix.old matrix.old map.old proof.old marks.old values.old) out.old
         (six prefix.new matrix.new map.new proof.new marks.new values.new) out.new }
 {
-    checks::check_all(
-        bytes, ends, kinds, prefix, matrix, map, proof, marks, values, out,
-    );
+    let mut tables = LentTables {
+        prefix,
+        matrix,
+        map,
+        proof,
+        marks,
+        values,
+    };
+    checks::check_all(bytes, ends, kinds, &mut tables, out);
 }

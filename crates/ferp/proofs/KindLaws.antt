@@ -5,7 +5,7 @@ use mathlib.Core.List.{List, [], ◌∷◌}
 use mathlib.Core.Option.{Option, none, some}
 use Prim.Native.Nat.{ℕ}
 use lib.Dec.{eqb}
-use borrow.Author.Tests.{eq-eqb, ne_eqb, eqb-true}
+use borrow.Author.Tests.{eqb-true}
 use Rattle.lines.specs.Bytes.{class_of, bytes, same_bytes}
 use Rattle.lines.specs.Lines.{Token, number, minus, word, token_of, read_line}
 use Rattle.lines.specs.declared.Head.{Head}
@@ -24,16 +24,6 @@ use Rattle.derivations.specs.Shown.{ferp_rules}
 use Rattle.ferp.specs.declared.kinds.Kind.{Kind}
 use Rattle.ferp.specs.Kinds.{letter_kind, kind_of}
 use Rattle.ferp.specs.Lines.{same_form, judged}
-
--- the code's test on the letter
-module _ (b e : ℕ) where
-  pub letter_x : b ≡ 120 → Kind.Mapping e ≡ letter_kind b e
-  unfolding letter_kind
-  letter_x h = sym (ap (λ x. cond x (Kind.Mapping e) Kind.Clause) (eq-eqb b 120 h))
-
-  pub letter_none : (b ≡ 120 → ⊥) → Kind.Clause ≡ letter_kind b e
-  unfolding letter_kind
-  letter_none h = sym (ap (λ x. cond x (Kind.Mapping e) Kind.Clause) (ne_eqb b 120 h))
 
 -- a line whose first word is not `x` is read as a clause line
 plain_line : (w : List ℕ) (ts : List Token) → same_bytes w (bytes "x") ≡ false → ferp_line (token_of w ∷ ts) ≡ derivation_form (token_of w ∷ ts)

@@ -1,4 +1,8 @@
 -- Laws of the mapping line: crate mapping's answer is the rules' step. Assumes nothing.
+use Rattle.std.specs.Prelude.{Result, Ok, Err, Some, None}
+use Rattle.std.specs.Prelude as prelude
+use Rattle.rules.specs.declared.Rule.{Rule}
+use Rattle.rules.specs.declared.Rule.TheVariants.{Malformed}
 use mathlib.Core.Path.{◌≡◌, refl, ap, ap₂, sym, ◌∙◌, subst}
 use mathlib.Core.Bool.{Bool, ◌&&◌}
 use mathlib.Core.List.{List, [], ◌∷◌}
@@ -10,7 +14,7 @@ use lib.ListN.{length}
 use borrow.Author.Tests.{ne_eqb}
 use Rattle.lines.specs.Lists.{all, is_empty}
 use Rattle.lines.specs.Scan.{tokens_from}
-use Rattle.lists.specs.declared.Mapping.{Mapping}
+use Rattle.lists.specs.declared.MappingLists.{MappingLists}
 use Rattle.lists.specs.Lists.{lits_at, mapping_at}
 use Rattle.lists.proofs.FormLaws.{MapsAs, maps}
 use Rattle.rules.specs.Basics.{maybe}
@@ -29,8 +33,6 @@ use Rattle.ferp_rules.specs.Forms.{FerpLine, mapping, same_mapping}
 use Rattle.ferp_rules.specs.Lines.{Derived, ferp_needs, needing, in_sequence, in_range, kind_rules, accept, judge}
 use Rattle.tables.specs.Tables.{Tables, lengths_of}
 use Rattle.mapping.specs.declared.Mapped.{Mapped}
-use Rattle.mapping.specs.declared.Answer.{Answer}
-use Rattle.mapping.specs.declared.Answer.TheVariants as answer
 use Rattle.mapping.specs.MappingLine.{Lent, after, MappingLine}
 use Rattle.expansion.proofs.ClauseLaws.{prefix_told}
 use Rattle.clauses.specs.Standing.{places_of, proof_need, marks_need}
@@ -38,9 +40,8 @@ use Rattle.reading.specs.Lines.{Light, Leads}
 use Rattle.reading.proofs.MappingLaws as reading
 use Rattle.reading.proofs.MappingLaws.{lent_of, unwritten, room, mapping_needs, mapping_room, room_kept, MapsBy, maps_step}
 use Rattle.derivations.specs.declared.Progress.{Progress}
-use Rattle.derivations.specs.declared.Step.{Step}
-use Rattle.derivations.specs.declared.Step.TheVariants.{Next, Refuse}
-use Rattle.derivations.specs.Shown.{Work, work, needs_of, Shown, ferp_rules, ferp_code, answer_of}
+use Rattle.derivations.specs.declared.Work.{Work}
+use Rattle.derivations.specs.Shown.{needs_of, Shown, ferp_rules, ferp_code}
 use Rattle.ferp.specs.Lines.{same_form, no_clause, judged, Line, mapped_in}
 
 -- no clause came before
@@ -48,34 +49,30 @@ empty_count : {A : Type 0} (xs : List A) → eqb (length xs) 0 ≡ is_empty xs
 empty_count [] = refl
 empty_count (x ∷ xs) = ne_eqb (suc (length xs)) 0 (λ e. omega (arith, e))
 
-pub no_clause_lem : (p : Progress) {n : ℕ} → n ≡ places_of p.store → eqb n 0 ≡ no_clause p
-unfolding no_clause
-no_clause_lem p e = ap (λ z. eqb z 0) e
-
 -- the step that an answer is
-abbrev step_of : Progress → Answer → Step
-step_of p (answer.Next m) = Next (mapped_in p m)
-step_of p (answer.Refuse k) = Refuse k
+abbrev step_of : Progress → Result Mapped Rule → Result Progress Rule
+step_of p (Ok m) = Ok (mapped_in p m)
+step_of p (Err k) = Err k
 
-module _ (bs : List ℕ) (at : ℕ) (p : Progress) (t : Tables) (w : Work) (turn : Bool) (q : turn ≡ no_clause p) (r : Answer) (u : Lent)
+module _ (bs : List ℕ) (at : ℕ) (p : Progress) (t : Tables) (w : Work) (turn : Bool) (q : turn ≡ no_clause p) (r : Result Mapped Rule) (u : Lent)
     (x : MappingLine bs at turn p.formula.v p.mapped t.prefix (lent_of t w.noted) r u) where
   abbrev t₁ : Tables
   t₁ = reading.mapped_in t u
 
   abbrev noting : List ℕ → Work
-  noting noted = work w.starts noted w.indexes w.seen
+  noting noted = record w { noted = noted }
 
-  abbrev Steps : Answer → Type 0
+  abbrev Steps : Result Mapped Rule → Type 0
   Steps y = (f : Formula) (s : Derived) → Shown p t w f s → Light ferp_rules ferp_code p (length bs)
-      → Leads ferp_rules ferp_code f p (length bs) t (judged same_form bs at t f s) (answer_of (step_of p y)) t₁ (noting u.noted)
+      → Leads ferp_rules ferp_code f p (length bs) t (judged same_form bs at t f s) (step_of p y) t₁ (noting u.noted)
 
   -- a line of no form
   malformed : mapping_form (tokens_from bs at) ≡ none → Steps r
   unfolding judged
   malformed h f s sh l =
       let e = x.malformed h in
-      subst (λ a. Leads ferp_rules ferp_code f p (length bs) t (judged same_form bs at t f s) (answer_of (step_of p a)) t₁ (noting u.noted)) (sym e.0)
-      (subst (λ y. Leads ferp_rules ferp_code f p (length bs) t y (answer_of (Refuse 2)) t₁ (noting u.noted))
+      subst (λ a. Leads ferp_rules ferp_code f p (length bs) t (judged same_form bs at t f s) (step_of p a) t₁ (noting u.noted)) (sym e.0)
+      (subst (λ y. Leads ferp_rules ferp_code f p (length bs) t y (Err Malformed) t₁ (noting u.noted))
       (sym (ap (λ o. maybe (o >>= same_mapping) (rules.refuse 2 s) (judge (limits (lengths_of t)) f s)) h))
       (refl, unwritten t w.noted u s.state.needs e.1))
 
@@ -159,20 +156,23 @@ module _ (bs : List ℕ) (at : ℕ) (p : Progress) (t : Tables) (w : Work) (turn
       weight = λ g. omega (arith, g);
     }
 
-    stepped : (y : Answer) → r ≡ y
-        → Leads ferp_rules ferp_code f p (length bs) t (judged same_form bs at t f s) (answer_of (step_of p y)) t₁ (noting u.noted)
-    stepped (answer.Next z) e = maps_step ferp_rules ferp_code kind u refl at (subst (λ y. MappingLine bs at turn p.formula.v p.mapped t.prefix (lent_of t w.noted) y u) e x) h
-    stepped (answer.Refuse k) e = maps_step ferp_rules ferp_code kind u refl at (subst (λ y. MappingLine bs at turn p.formula.v p.mapped t.prefix (lent_of t w.noted) y u) e x) h
+    stepped : (y : Result Mapped Rule) → r ≡ y
+        → Leads ferp_rules ferp_code f p (length bs) t (judged same_form bs at t f s) (step_of p y) t₁ (noting u.noted)
+    stepped (Ok z) e = maps_step ferp_rules ferp_code kind u refl at (subst (λ y. MappingLine bs at turn p.formula.v p.mapped t.prefix (lent_of t w.noted) y u) e x) h
+    stepped (Err k) e = maps_step ferp_rules ferp_code kind u refl at (subst (λ y. MappingLine bs at turn p.formula.v p.mapped t.prefix (lent_of t w.noted) y u) e x) h
 
   mapping_line : Steps r
   mapping_line = go (mapping_at bs at) (maps bs at)
     where
-      go : (y : Mapping) → MapsAs bs at y → Steps r
-      go (Mapping.Lists k n a b l i h) o = λ f s sh z. stepped (vars (lits_at bs at)) (vars (lits_at bs i)) (lits_at bs h) o.form sh z r refl
-      go Mapping.Bad o = malformed o
+      go : (y : prelude.Option MappingLists) → MapsAs bs at y → Steps r
+      go (Some q) o = λ f s sh z. stepped (vars (lits_at bs at)) (vars (lits_at bs q.existentials_at)) (lits_at bs q.literals_at) o.form sh z r refl
+      go None o = malformed o
 
-  pub mapping_refused : {k : ℕ} → r ≡ answer.Refuse k → Line same_form bs at p t w (Refuse k) t₁ (noting u.noted)
-  mapping_refused e = record { steps = subst Steps e mapping_line }
+  -- the tables are the tables before, with the map and the values written
+  pub mapping_refused : {k : Rule} → r ≡ Err k → {z : Tables} → z ≡ t₁ → Line same_form bs at p t w (Err k) z (noting u.noted)
+  mapping_refused {k} e g =
+      subst (λ z. Line same_form bs at p t w (Err k) z (noting u.noted)) (sym g) (record { steps = subst Steps e mapping_line })
 
-  pub mapping_next : {m : Mapped} → r ≡ answer.Next m → {y : Progress} → y ≡ mapped_in p m → Line same_form bs at p t w (Next y) t₁ (noting u.noted)
-  mapping_next e g = subst (λ y. Line same_form bs at p t w (Next y) t₁ (noting u.noted)) (sym g) (record { steps = subst Steps e mapping_line })
+  pub mapping_next : {m : Mapped} → r ≡ Ok m → {z : Tables} → z ≡ t₁ → Line same_form bs at p t w (Ok (mapped_in p m)) z (noting u.noted)
+  mapping_next {m} e g =
+      subst (λ z. Line same_form bs at p t w (Ok (mapped_in p m)) z (noting u.noted)) (sym g) (record { steps = subst Steps e mapping_line })

@@ -21,16 +21,28 @@ use Rattle.clauses.specs.Standing.{literals}
 use Rattle.clauses.proofs.StoreLaws.{filled_above, need_above, standing_above, places_above}
 use Rattle.indexes.proofs.IndexLaws.{shown_start as none-used}
 use Rattle.resolvents.proofs.MarkLaws.{clear_start}
-use Rattle.derivations.specs.Shown.{work, needs_of, Shown, weight}
+use Rattle.derivations.specs.declared.Work.{Work}
+use Rattle.derivations.specs.Shown.{needs_of, Shown, weight}
 use Rattle.ferp.specs.Check.{begun}
+
+-- working memory of zeros, but for where the matrix clauses start
+abbrev pub fresh : List ℕ → Work
+fresh starts = record {
+  starts = starts;
+  noted = replicate 16385 0;
+  indexes = replicate 65537 0;
+  seen = replicate 65536 0;
+  held = replicate 8194 0;
+  buffer = replicate 4096 0;
+}
 
 module _ (r : Reading) (t : Tables) (f : Formula) (h : Holds r t.prefix t.matrix f) (w : length f.matrix ≡ r.c) where
   shown : FormulaShown r.v r.c r.used t.prefix t.matrix f
   shown = formula_shown r t.prefix t.matrix f h w
 
-  -- NOTHING IS READ YET, and the working memory is of zeros but for the index of the matrix
+  -- NOTHING IS READ YET
   pub shown_start : {starts : List ℕ} → starts ≡ index_of t.matrix r.used (replicate 8193 0)
-      → Shown (begun r) t (work starts (replicate 16385 0) (replicate 65537 0) (replicate 65536 0)) f (start f)
+      → Shown (begun r) t (fresh starts) f (start f)
   unfolding formula_needs
   shown_start e = let a = need_above 0 in let b = places_above 0 in record {
     formula = shown;

@@ -1,121 +1,107 @@
-// The certificate's lines one after the other.
-ghost use Rattle.std.specs.Prelude.{◌≡◌, ◌≤◌, length};
-ghost use Rattle.tables.specs.Tables.{six};
-ghost use Rattle.derivations.specs.Shown.{four};
-ghost use Rattle.ferp.specs.Certificate.{end_broken, AnyLine, CertificateRead};
+// What a FERP certificate has of its own: its lines, its end, and the working memory of its check.
+ghost use Rattle.std.specs.Prelude.{◌≡◌};
+ghost use Rattle.ferp_rules.specs.Lines.{Derived};
+ghost use Rattle.ferp_rules.specs.Verdict.{ferp_check, FerpNumber};
+ghost use Rattle.ferp_rules.proofs.Ranges.{ferp_ranged};
+ghost use Rattle.derivations.specs.Shown.{ferp_rules, ferp_code};
+ghost use Rattle.derivations.proofs.AptLaws.{ferp_apt};
+ghost use Rattle.ferp.specs.Check.{ferp_by_rules, begun};
 
 use crate::clause_lines::clause_line;
-use crate::kinds::{Kind, kind_of};
+use crate::kinds::{Kind as Line, kind_of};
 use crate::mapping_lines::mapping_line;
-use derivations::{Progress, Step};
-use indexes::Indexes;
-use mapped::Noted;
-use matrix::Starts;
-use reading::Ended;
-use resolvents::Seen;
+use certificates::{Checker, Kind};
+use clauses::Standing;
+use copies::marks::CODES;
+use derivations::{Progress, Work};
+use formula::Reading;
+use mapping::Mapped;
+use reading::{Counts, Ended};
+use rules::Rule;
+use tables::LentTables;
 
-// One line.
-fn certificate_line(
-    line: &[u8],
-    p: Progress,
-    prefix: &[i32],
-    matrix: &[i32],
-    map: &mut [i32],
-    proof: &mut [i32],
-    marks: &mut [i32],
-    values: &mut [i32],
-    starts: &Starts,
-    noted: &mut Noted,
-    indexes: &mut Indexes,
-    seen: &mut Seen,
-    held: &mut [u16],
-    buffer: &mut [u32],
-) -> Step
-    requires { 8194 ≤ length held.old }
-    ensures { AnyLine line.now p
-        (six prefix.now matrix.now map.old proof.old marks.old values.old)
-        (four starts.now noted.old indexes.old seen.old) result
-        (six prefix.now matrix.now map.new proof.new marks.new values.new)
-        (four starts.now noted.new indexes.new seen.new) }
-{
-    match kind_of(line) {
-        Kind::Skip => Step::Next(p),
-        Kind::Mapping(e) => mapping_line(line, e, p, prefix, map, values, noted),
-        Kind::Clause => clause_line(
-            line, p, prefix, matrix, map, proof, marks, values, starts, noted, indexes, seen, held,
-            buffer,
-        ),
+// FERP.
+pub struct Ferp;
+
+impl Kind for Ferp {
+    type Progress = Progress;
+
+    type Work = Work;
+
+    ghost State = { Derived };
+
+    ghost rules = { ferp_rules };
+
+    ghost code = { ferp_code };
+
+    ghost apt = { ferp_apt };
+
+    fn line(
+        line: &[u8],
+        p: Progress,
+        tables: &mut LentTables,
+        work: &mut Work,
+    ) -> Result<Progress, Rule> {
+        match kind_of(line) {
+            Line::Skip => Ok(p),
+            Line::Mapping(at) => mapping_line(line, at, p, tables, work),
+            Line::Clause => clause_line(line, p, tables, work),
+        }
+    }
+
+    // Whether an empty clause was derived.
+    fn end(p: Progress, tables: &LentTables) -> Result<(), Rule> {
+        let standing = Standing {
+            proof: tables.proof,
+            marks: tables.marks,
+            count: clauses::places(p.store),
+        };
+        if !standing.empty_stands() {
+            return Err(Rule::NotClosed);
+        }
+        Ok(())
+    }
+
+    fn counts(p: Progress) -> Counts {
+        p.counts
     }
 }
 
-// 14 if no empty clause was derived, else 0.
-fn end_broken(p: Progress, proof: &[i32], marks: &[i32]) -> u32
-    ensures { result ≡ end_broken p proof.now marks.now }
+// Nothing of the certificate is read yet.
+fn begin(r: Reading) -> Progress
+    ensures { result ≡ begun r }
 {
-    let store = p.store;
-    if clauses::empty_stands(proof, marks, clauses::places(store)) {
-        return 0;
+    Progress {
+        formula: r,
+        mapped: Mapped {
+            used: 0,
+            largest: 0,
+        },
+        store: clauses::above(0),
+        counts: Counts::default(),
     }
-    14
 }
 
-// The lines one after the other, and the end.
-pub fn read_certificate(
-    certificate: &[u8],
-    p: Progress,
-    prefix: &[i32],
-    matrix: &[i32],
-    map: &mut [i32],
-    proof: &mut [i32],
-    marks: &mut [i32],
-    values: &mut [i32],
-    starts: &Starts,
-    noted: &mut Noted,
-    indexes: &mut Indexes,
-    seen: &mut Seen,
-    held: &mut [u16],
-    buffer: &mut [u32],
-) -> Ended
-    requires { (length certificate.now ≤ 1048576) × (8194 ≤ length held.old) }
-    ensures { CertificateRead certificate.now p
-        (six prefix.now matrix.now map.old proof.old marks.old values.old)
-        (four starts.now noted.old indexes.old seen.old) result
-        (six prefix.now matrix.now map.new proof.new marks.new values.new) }
-{
-    let mut q = p;
-    let mut at = 0;
-    let mut n: u32 = 1;
-    loop {
-        let e = lines::line_end(certificate, at);
-        match certificate_line(
-            &certificate[at..e],
-            q,
-            prefix,
-            matrix,
-            map,
-            proof,
-            marks,
-            values,
-            starts,
-            noted,
-            indexes,
-            seen,
-            held,
-            buffer,
-        ) {
-            Step::Next(t) => {
-                q = t;
-            }
-            Step::Refuse(k) => {
-                let counts = q.counts;
-                return Ended::Refused(k, n, counts);
-            }
-        }
-        if certificate.len() <= e {
-            let counts = q.counts;
-            return reading::at_end(end_broken(q, proof, marks), counts);
-        }
-        at = e + 1;
-        n += 1;
+impl Checker for Ferp {
+    ghost checked = { ferp_check };
+
+    ghost Number = { FerpNumber };
+
+    ghost of_both_files = { ferp_by_rules };
+
+    ghost in_range = { ferp_ranged };
+
+    fn certificate(certificate: &[u8], r: Reading, tables: &mut LentTables) -> Ended {
+        let mut work = Work {
+            starts: [0; 8193],
+            noted: [0; 16385],
+            indexes: [0; 65537],
+            seen: [0; 65536],
+            held: [0; CODES],
+            buffer: [0; 4096],
+        };
+        let clauses = &mut *tables.matrix;
+        matrix::index_clauses(clauses, r.used, &mut work.starts);
+        certificates::read_certificate::<Ferp>(certificate, begin(r), tables, &mut work)
     }
 }

@@ -1,7 +1,7 @@
 // What a line of the certificate is, by its first word.
 ghost use Rattle.std.specs.Prelude.{◌≡◌};
 ghost use Rattle.lines.specs.Scan.{head_of};
-ghost use Rattle.ferp.specs.Kinds.{letter_kind, kind_of};
+ghost use Rattle.ferp.specs.Kinds.{kind_of};
 
 use lines::Head;
 
@@ -13,21 +13,13 @@ pub enum Kind {
     Clause,
 }
 
-fn by_letter(b: u8, e: usize) -> Kind
-    ensures { result ≡ letter_kind b e }
-{
-    if b == 120 {
-        return Kind::Mapping(e);
-    }
-    Kind::Clause
-}
-
+#[tactic(auto, unfolding(crate::specs::Kinds::letter_kind))]
 pub fn kind_of(line: &[u8]) -> Kind
     ensures { result ≡ kind_of (head_of line.now) }
 {
     match lines::line_head(line) {
         Head::Skipped => Kind::Skip,
-        Head::Letter(b, e) => by_letter(b, e),
-        Head::Other => Kind::Clause,
+        Head::Letter(b'x', e) => Kind::Mapping(e),
+        Head::Letter(_, _) | Head::Other => Kind::Clause,
     }
 }

@@ -1,34 +1,18 @@
 // The mapping line.
 ghost use Rattle.std.specs.Prelude.{◌≡◌};
-ghost use Rattle.tables.specs.Tables.{Tables};
-ghost use Rattle.derivations.specs.Shown.{Work};
-ghost use Rattle.ferp.specs.Lines.{same_form, no_clause, Line, mapped_in, with_map, with_noted};
+ghost use Rattle.tables.specs.Lent.{tables_of, SameLent};
+ghost use Rattle.ferp.specs.Lines.{same_form, no_clause, Line};
 
-use derivations::{Progress, Step};
-use mapped::Noted;
-use mapping::{Answer, Mapped};
+use derivations::{Progress, Work};
+use rules::Rule;
+use tables::LentTables;
 
 // Whether no clause line came before.
+#[tactic(auto, unfolding(crate::specs::Lines::no_clause))]
 fn before_clauses(p: Progress) -> bool
     ensures { result ≡ no_clause p }
 {
-    let store = p.store;
-    clauses::places(store) == 0
-}
-
-// The progress after a mapping line.
-fn with_mapping(p: Progress, mapped: Mapped) -> Progress
-    ensures { result ≡ mapped_in p mapped }
-{
-    let formula = p.formula;
-    let store = p.store;
-    let counts = p.counts;
-    Progress {
-        formula,
-        mapped,
-        store,
-        counts,
-    }
+    clauses::places(p.store) == 0
 }
 
 // "the same mapping lines", from the place after the letter on.
@@ -36,29 +20,25 @@ pub fn mapping_line(
     line: &[u8],
     at: usize,
     p: Progress,
-    prefix: &[i32],
-    map: &mut [i32],
-    values: &mut [i32],
-    noted: &mut Noted,
-) -> Step
-    ensures { (t : Tables) (w : Work) → Line same_form line.now at p
-        (with_map t prefix.now map.old values.old) (with_noted w noted.old) result
-        (with_map t prefix.now map.new values.new) (with_noted w noted.new) }
+    tables: &mut LentTables,
+    work: &mut Work,
+) -> Result<Progress, Rule>
+    ensures read { Line same_form line.now at p
+        (tables_of tables.old) work.old result (tables_of tables.new) work.new }
+    ensures rest { tables_of tables.new ≡ record (tables_of tables.old) { map = (tables_of tables.new).map; values = (tables_of tables.new).values } }
+    ensures noted { work.new ≡ record work.old { noted = work.new.noted } }
+    ensures lent { SameLent tables.old tables.new }
 {
-    let open = before_clauses(p);
-    let state = p.mapped;
-    match mapping::mapping_line(
-        line,
-        at,
-        open,
-        p.formula.v,
-        state,
-        prefix,
-        map,
-        values,
-        noted,
-    ) {
-        Answer::Refuse(k) => Step::Refuse(k),
-        Answer::Next(m) => Step::Next(with_mapping(p, m)),
-    }
+    Ok(Progress {
+        mapped: mapping::mapping_line(
+            line,
+            at,
+            before_clauses(p),
+            p.formula.v,
+            p.mapped,
+            tables,
+            &mut work.noted,
+        )?,
+        ..p
+    })
 }

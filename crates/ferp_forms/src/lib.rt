@@ -4,74 +4,50 @@
 ghost use Rattle.std.specs.Prelude.{◌≡◌};
 ghost use Rattle.ferp_forms.specs.Forms.{closed_at, reason_at, Derives};
 
-use derivations::Reason;
-use lists::{Listed, Natural};
-
-// What the numbers after a clause say that it follows from; nothing else may stand there.
-#[derive(Clone, Copy)]
-pub enum Given {
-    By(Reason),
-    Bad,
-}
+use derivations::{Derivation, Reason};
 
 // The line ends after these numbers.
-fn closed(line: &[u8], at: usize, reason: Reason) -> Given
+#[tactic(auto, unfolding(crate::specs::Forms::closed_at))]
+fn closed(line: &[u8], at: usize, reason: Reason) -> Option<Reason>
     ensures { result ≡ closed_at line.now at reason }
 {
-    if lines::ended(line, at) {
-        return Given::By(reason);
-    }
-    Given::Bad
+    lines::ended(line, at).then_some(reason)
 }
 
-// One or two numbers and a zero that ends the line.
-pub fn reason_at(line: &[u8], at: usize) -> Given
+// What the numbers after a clause say that it follows from: one or two numbers and a zero that ends the line, and nothing else.
+pub fn reason_at(line: &[u8], at: usize) -> Option<Reason>
     ensures { result ≡ reason_at line.now at }
 {
-    let Natural::Of(a, e) = lists::natural_at(line, at) else {
-        return Given::Bad;
-    };
+    let (a, e) = lists::natural_at(line, at)?;
     if a == 0 {
-        return Given::Bad;
+        return None;
     }
-    let Natural::Of(b, h) = lists::natural_at(line, e) else {
-        return Given::Bad;
-    };
+    let (b, h) = lists::natural_at(line, e)?;
     if b == 0 {
         return closed(line, h, Reason::Clause(a));
     }
-    let Natural::Of(z, g) = lists::natural_at(line, h) else {
-        return Given::Bad;
-    };
+    let (z, g) = lists::natural_at(line, h)?;
     if z == 0 {
         return closed(line, g, Reason::Parents(a, b));
     }
-    Given::Bad
+    None
 }
 
-// A clause line: its index, where its literals start, how many there are, the largest copy, and what it is said to follow from; numbers at
-// most the cap.
-#[derive(Clone, Copy)]
-pub enum Derivation {
-    Good(u32, usize, usize, u32, Reason),
-    Bad,
-}
-
-// The codes of its literals are in the buffer, as far as it goes.
-pub fn derivation_at(line: &[u8], at: usize, buffer: &mut [u32]) -> Derivation
+// A clause line, its numbers at most the cap, and where its literals start. Their codes are in the buffer, as far as it goes.
+pub fn derivation_at(line: &[u8], at: usize, buffer: &mut [u32]) -> Option<(Derivation, usize)>
     ensures { Derives line.now at buffer.old result buffer.new }
 {
-    let Natural::Of(i, from) = lists::natural_at(line, at) else {
-        return Derivation::Bad;
-    };
-    if i == 0 {
-        return Derivation::Bad;
+    let (index, from) = lists::natural_at(line, at)?;
+    if index == 0 {
+        return None;
     }
-    let Listed::Good(_, n, m, h) = buffers::list_at(line, from, buffer) else {
-        return Derivation::Bad;
+    let (literals, end) = buffers::list_at(line, from, buffer)?;
+    let reason = reason_at(line, end)?;
+    let derivation = Derivation {
+        index,
+        reason,
+        size: literals.count,
+        largest: literals.largest,
     };
-    let Given::By(reason) = reason_at(line, h) else {
-        return Derivation::Bad;
-    };
-    Derivation::Good(i, from, n, m, reason)
+    Some((derivation, from))
 }

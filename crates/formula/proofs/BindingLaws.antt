@@ -9,6 +9,9 @@ use lib.ListN.{length, length-append, length-map}
 use lib.IntN.{ℤ}
 use lib.Dec.{leb}
 use borrow.Author.Tests.{eq-eqb, ne_eqb, le-leb, lt-leb}
+use Rattle.std.specs.Prelude.{Some, None, Result, Ok, Err}
+use Rattle.rules.specs.declared.Rule.{Rule}
+use Rattle.rules.specs.declared.Rule.TheVariants.{Malformed, OutOfRange, BoundTwice}
 use Rattle.lines.specs.Lists.{all, is_empty}
 use Rattle.lines.specs.Scan.{tokens_from}
 use Rattle.cells.specs.Cells.{Kept}
@@ -20,17 +23,14 @@ use Rattle.rules.specs.Forms.{binding_form}
 use Rattle.rules.specs.Needs.{Places, formula_needs}
 use Rattle.rules.specs.Step.{Step, next, refuse_in, ◌unless◌, ◌then◌}
 use Rattle.rules.specs.FormulaLines.{judge_formula, up_to_v, with_bound}
-use Rattle.lists.specs.declared.Clause.{Clause}
+use Rattle.lists.specs.declared.Measure.{Measure}
 use Rattle.lists.specs.Lists.{clause_at, lits_at}
 use Rattle.lists.specs.Stores.{codes_at, in_range}
 use Rattle.lists.proofs.ListLaws.{listing_list, all_low, listed_low, listed_high, listed_range}
 use Rattle.lists.proofs.FormLaws.{empty_length, Seen, clause_told, as_binding, not_binding, empty_binding, bad_binding}
 use Rattle.lists.proofs.StoreLaws.{codes_listed}
 use Rattle.prefix.specs.Prefix.{Shows}
-use Rattle.formula.specs.declared.Marked.{Marked}
 use Rattle.formula.specs.declared.Reading.{Reading}
-use Rattle.formula.specs.declared.State.{State}
-use Rattle.formula.specs.declared.Outcome.{Outcome}
 use Rattle.formula.specs.Tables.{Pass, pass, Tells, Marks}
 use Rattle.formula.specs.Holds.{Holds, proper}
 use Rattle.formula.specs.Judged.{quantifier, by_form, binding_judge, LineRead}
@@ -42,34 +42,34 @@ abbrev three : Formula → Formula → Bool → Bool → Bool → Step (Option F
 three f g a b c = refuse_in (some f) (2 unless a then 3 unless b then 4 unless c) (next (some g))
 
 -- what the second pass tells
-twice_fresh : (b : Bool) (x : Pass) (n j : ℕ) (bs : List Bound) → Says x b n j bs → x.answer ≡ Marked.Twice → b ≡ false
+twice_fresh : (b : Bool) (x : Pass) (n j : ℕ) (bs : List Bound) → Says x b n j bs → x.answer ≡ (Err BoundTwice) → b ≡ false
 twice_fresh true x n j bs s e = absurd (let k = sym s.0 ∙ e in let z : ◌≡◌ {A = ℕ} 0 1 = cc in omega arith)
 twice_fresh false x n j bs s e = refl
 
-done_fresh : (b : Bool) (x : Pass) (n i j : ℕ) (bs : List Bound) → Says x b n j bs → x.answer ≡ Marked.Done i → (b ≡ true) × (i ≡ j) × Shows x.table n bs
+done_fresh : (b : Bool) (x : Pass) (n i j : ℕ) (bs : List Bound) → Says x b n j bs → x.answer ≡ Ok i → (b ≡ true) × (i ≡ j) × Shows x.table n bs
 done_fresh true x n i j bs s e = let k = sym s.0 ∙ e in (refl, cc, s.1)
 done_fresh false x n i j bs s e = absurd (let k = sym s ∙ e in let z : ◌≡◌ {A = ℕ} 0 1 = cc in omega arith)
 
 module _ (bs : List ℕ) (at q : ℕ) (r : Reading) (p m : List ℤ) where
-  no_form : binding_form (quantifier q) (tokens_from bs at) ≡ none → LineRead (binding_judge bs at q) (State.Within r) (length bs) p m (Outcome.Refuse 2) p m
+  no_form : binding_form (quantifier q) (tokens_from bs at) ≡ none → LineRead (binding_judge bs at q) (Some r) (length bs) p m (Err Malformed) p m
   unfolding binding_judge
   no_form e = untouched (binding_judge bs at q) (length bs) p m r some (λ l f o k. ap (λ x. by_form x l (some f)) e)
 
-  pub binding_bad : clause_at bs at ≡ Clause.Bad → LineRead (binding_judge bs at q) (State.Within r) (length bs) p m (Outcome.Refuse 2) p m
+  pub binding_bad : clause_at bs at ≡ None → LineRead (binding_judge bs at q) (Some r) (length bs) p m (Err Malformed) p m
   binding_bad h = no_form (bad_binding bs at h (quantifier q))
 
-  module _ {s n g : ℕ} (h : clause_at bs at ≡ Clause.Good s n g) where
-    seen : Seen bs at s n g
+  module _ {list : Measure} (h : clause_at bs at ≡ Some list) where
+    seen : Seen bs at list.negative list.count list.largest
     seen = clause_told bs at h
 
-    pub binding_signed : (s ≡ 0 → ⊥) → LineRead (binding_judge bs at q) (State.Within r) (length bs) p m (Outcome.Refuse 2) p m
+    pub binding_signed : list.negative ≡ true → LineRead (binding_judge bs at q) (Some r) (length bs) p m (Err Malformed) p m
     binding_signed z = no_form (not_binding bs at seen (quantifier q) z)
 
-    module _ (z : s ≡ 0) where
-      pub binding_empty : n ≡ 0 → LineRead (binding_judge bs at q) (State.Within r) (length bs) p m (Outcome.Refuse 2) p m
+    module _ (z : list.negative ≡ false) where
+      pub binding_empty : list.count ≡ 0 → LineRead (binding_judge bs at q) (Some r) (length bs) p m (Err Malformed) p m
       binding_empty y = no_form (empty_binding bs at seen (quantifier q) z y)
 
-      module _ (y : n ≡ 0 → ⊥) where
+      module _ (y : list.count ≡ 0 → ⊥) where
         rules : (l : Places) (f : Formula) → binding_judge bs at q l (some f)
             ≡ three f (with_bound f (map (quantifier q) (vars (lits_at bs at)))) (is_empty f.matrix) (leb (greatest (vars (lits_at bs at))) f.highest) (fresh (bound f) (vars (lits_at bs at)) && distinct (bound f))
         unfolding binding_judge judge_formula
@@ -78,7 +78,7 @@ module _ (bs : List ℕ) (at q : ℕ) (r : Reading) (p m : List ℤ) where
             ∙ ap (λ vs. three f (with_bound f (map (quantifier q) (vars (lits_at bs at)))) (is_empty f.matrix) (up_to_v f vs) (distinct (vs ++ bound f))) (bounds_new q (vars (lits_at bs at)))
             ∙ ap₂ (three f (with_bound f (map (quantifier q) (vars (lits_at bs at)))) (is_empty f.matrix)) (all_low f.highest (vars (lits_at bs at))) (distinct_fresh (vars (lits_at bs at)) (bound f))
 
-        pub binding_late : (r.clauses ≡ 0 → ⊥) → LineRead (binding_judge bs at q) (State.Within r) (length bs) p m (Outcome.Refuse 2) p m
+        pub binding_late : (r.clauses ≡ 0 → ⊥) → LineRead (binding_judge bs at q) (Some r) (length bs) p m (Err Malformed) p m
         binding_late x = untouched (binding_judge bs at q) (length bs) p m r some (λ l f o k. rules l f ∙
             ap (λ a. three f (with_bound f (map (quantifier q) (vars (lits_at bs at)))) a (leb (greatest (vars (lits_at bs at))) f.highest) (fresh (bound f) (vars (lits_at bs at)) && distinct (bound f)))
             (empty_length f.matrix ∙ ne_eqb (length f.matrix) 0 (λ i. x (k.clauses ∙ i))))
@@ -90,11 +90,11 @@ module _ (bs : List ℕ) (at q : ℕ) (r : Reading) (p m : List ℤ) where
               rules l f ∙ ap₂ (λ a b. three f (with_bound f (map (quantifier q) (vars (lits_at bs at)))) a b (fresh (bound f) (vars (lits_at bs at)) && distinct (bound f)))
               (empty_length f.matrix ∙ eq-eqb (length f.matrix) 0 (sym k.clauses ∙ x)) e
 
-          pub binding_high : r.v < g → LineRead (binding_judge bs at q) (State.Within r) (length bs) p m (Outcome.Refuse 3) p m
+          pub binding_high : r.v < list.largest → LineRead (binding_judge bs at q) (Some r) (length bs) p m (Err OutOfRange) p m
           binding_high i = untouched (binding_judge bs at q) (length bs) p m r some (λ l f o k.
               first l f k (lt-leb (greatest (vars (lits_at bs at))) f.highest (let w = listed_high seen.listing i in omega (arith, k.highest))))
 
-          module _ (i : g ≤ r.v) (least : 1 ≤ q) (most : q ≤ 2) {t : Marked} {u : List ℤ} (a : Marks q r.bound bs at p t u) where
+          module _ (i : list.largest ≤ r.v) (least : 1 ≤ q) (most : q ≤ 2) {t : Result ℕ Rule} {u : List ℤ} (a : Marks q r.bound bs at p t u) where
             second : (l : Places) (f : Formula) → Holds r p m f → {b : Bool} → fresh (bound f) (vars (lits_at bs at)) ≡ b
                 → binding_judge bs at q l (some f) ≡ three f (with_bound f (map (quantifier q) (vars (lits_at bs at)))) true true (b && true)
             second l f k e =
@@ -113,17 +113,19 @@ module _ (bs : List ℕ) (at q : ℕ) (r : Reading) (p m : List ℤ) where
                 let e : r.v ≡ (formula_needs f).prefix = k.highest ∙ sym (prefix_need f) in
                 subst (λ n. Kept n p u) e (subst (Kept r.v p) (sym a.table) (passed f k).kept)
 
-            -- the second pass meets no bad token: the first met none
-            pub binding_never : t ≡ Marked.Bad → LineRead (binding_judge bs at q) (State.Within r) (length bs) p m (Outcome.Refuse 2) u m
-            binding_never w = absurd (false≢true (sym (subst (Tells bs at r.bound) w a.tells) ∙ listing_list bs at seen.listing))
-
-            pub binding_twice : t ≡ Marked.Twice → LineRead (binding_judge bs at q) (State.Within r) (length bs) p m (Outcome.Refuse 4) u m
-            binding_twice w = read_within (binding_judge bs at q) (length bs) p m r (λ l f o k.
+            twice : t ≡ Err BoundTwice → LineRead (binding_judge bs at q) (Some r) (length bs) p m (Err BoundTwice) u m
+            twice w = read_within (binding_judge bs at q) (length bs) p m r (λ l f o k.
                 refused (second l f k (twice_fresh (fresh (bound f) (vars (lits_at bs at))) (pass q r.bound (codes_at bs at) p) r.v (r.bound + length (lits_at bs at)) (f.prefix ++ map (quantifier q) (vars (lits_at bs at))) (passed f k).says (sym a.answer ∙ w)))
                 (kept f k) (kept_self (formula_needs f).matrix m)) tt
 
-            pub binding_done : {j : ℕ} → t ≡ Marked.Done j
-                → LineRead (binding_judge bs at q) (State.Within r) (length bs) p m (Outcome.Next (State.Within (record { v = r.v; c = r.c; bound = j; clauses = r.clauses; used = r.used }))) u m
+            -- the second pass meets no bad token: the first met none
+            pub binding_refused : (rule : Rule) → t ≡ Err rule → LineRead (binding_judge bs at q) (Some r) (length bs) p m (Err rule) u m
+            binding_refused Malformed w = absurd (false≢true (sym (subst (Tells bs at r.bound) w a.tells) ∙ listing_list bs at seen.listing))
+            binding_refused BoundTwice w = twice w
+            binding_refused _ w = absurd (subst (Tells bs at r.bound) w a.tells)
+
+            pub binding_done : {j : ℕ} → t ≡ Ok j
+                → LineRead (binding_judge bs at q) (Some r) (length bs) p m (Ok (Some (record { v = r.v; c = r.c; bound = j; clauses = r.clauses; used = r.used }))) u m
             unfolding formula_needs
             binding_done {j} w = read_within (binding_judge bs at q) (length bs) p m r (λ l f o k.
                 accepted (second l f k (fact f k).0) (holds f k) (kept f k) (kept_self (formula_needs f).matrix m)) (subst (Tells bs at r.bound) w a.tells).1

@@ -3,11 +3,11 @@ use mathlib.Core.Path.{◌≡◌, refl, ap, sym, ◌∙◌}
 use mathlib.Core.Bool.{Bool, true, false, not, cond, ◌&&◌}
 use mathlib.Core.List.{List, [], ◌∷◌}
 use mathlib.Core.Option.{Option, none, some}
-use Prim.Native.Nat.{ℕ, ◌≤◌}
+use Prim.Native.Nat.{ℕ}
 use native.Mathlib.Omega.{arith}
 use lib.ListN.{length}
 use lib.Dec.{eqb}
-use borrow.Author.Tests.{eq-eqb, ne_eqb, eqb-true}
+use borrow.Author.Tests.{eqb-true}
 use Rattle.lines.specs.Bytes.{class_of, bytes, same_bytes, is_minus}
 use Rattle.lines.specs.Lines.{Token, number, minus, word, token_of, signed, is_number, value, read_line}
 use Rattle.lines.specs.declared.Head.{Head}
@@ -18,8 +18,9 @@ use Rattle.rules.specs.Formula.{Formula, for_all, exists}
 use Rattle.rules.specs.Forms.{FormulaLine, clause, formula_line, by_word, problem_form, binding_form, clause_form}
 use Rattle.rules.specs.Needs.{Places}
 use Rattle.rules.specs.Step.{next, judge_bytes}
+use Rattle.formula.specs.declared.Quantifier.TheVariants.{Universal, Existential}
 use Rattle.formula.specs.declared.Kind.{Kind}
-use Rattle.formula.specs.Kinds.{letter_kind, kind_of}
+use Rattle.formula.specs.Kinds.{number_of, letter_kind, kind_of}
 use Rattle.formula.specs.Judged.{line_judge, by_form, problem_judge, binding_judge, clause_judge}
 
 -- a word that is no number
@@ -65,37 +66,12 @@ one_byte (x ∷ y ∷ w) b h = go (eqb x b)
 pub other_byte : (x b : ℕ) → eqb x b ≡ false → same_bytes (x ∷ []) (b ∷ []) ≡ false
 other_byte x b e = ap (λ t. t && true) e
 
--- the code's tests on the letter
-module _ (b e : ℕ) where
-  abbrev picked : Bool → Bool → Bool → Kind
-  picked x y z = cond x (Kind.Problem e) (cond y (Kind.Binding 1 e) (cond z (Kind.Binding 2 e) Kind.Clause))
-
-  pub letter_p : b ≡ 112 → Kind.Problem e ≡ letter_kind b e
-  unfolding letter_kind
-  letter_p h = sym (ap (λ x. picked x (eqb b 97) (eqb b 101)) (eq-eqb b 112 h))
-
-  module _ (p : b ≡ 112 → ⊥) where
-    pub letter_a : b ≡ 97 → Kind.Binding 1 e ≡ letter_kind b e
-    unfolding letter_kind
-    letter_a h = sym (ap (λ x. picked x (eqb b 97) (eqb b 101)) (ne_eqb b 112 p) ∙ ap (λ y. picked false y (eqb b 101)) (eq-eqb b 97 h))
-
-    module _ (a : b ≡ 97 → ⊥) where
-      not_pa : letter_kind b e ≡ picked false false (eqb b 101)
-      unfolding letter_kind
-      not_pa = ap (λ x. picked x (eqb b 97) (eqb b 101)) (ne_eqb b 112 p) ∙ ap (λ y. picked false y (eqb b 101)) (ne_eqb b 97 a)
-
-      pub letter_e : b ≡ 101 → Kind.Binding 2 e ≡ letter_kind b e
-      letter_e h = sym (not_pa ∙ ap (picked false false) (eq-eqb b 101 h))
-
-      pub letter_none : (b ≡ 101 → ⊥) → Kind.Clause ≡ letter_kind b e
-      letter_none h = sym (not_pa ∙ ap (picked false false) (ne_eqb b 101 h))
-
 -- WHAT THE RULES SAY OF A LINE, BY ITS KIND
 module _ (bs : List ℕ) (l : Places) (s : Option Formula) where
   abbrev pub Means : Kind → Type 0
   Means Kind.Skip = line_judge bs l s ≡ next s
   Means (Kind.Problem e) = line_judge bs l s ≡ problem_judge bs e l s
-  Means (Kind.Binding q e) = (1 ≤ q) × (q ≤ 2) × (line_judge bs l s ≡ binding_judge bs e q l s)
+  Means (Kind.Binding q e) = line_judge bs l s ≡ binding_judge bs e (number_of q) l s
   Means Kind.Clause = line_judge bs l s ≡ clause_judge bs l s
 
   read_as : {ts : List Token} → read_line bs ≡ some ts → line_judge bs l s ≡ by_form (formula_line ts) l s
@@ -113,10 +89,10 @@ module _ (bs : List ℕ) (l : Places) (s : Option Formula) where
       line : line_judge bs l s ≡ by_form (formula_line (token_of (b ∷ []) ∷ tokens_from bs e)) l s
       line = let k = head_letter bs h in read_as k.0 ∙ ap (λ ts. by_form (formula_line ts) l s) k.1
 
-      go : (x : Bool) → eqb b 112 ≡ x → (y : Bool) → eqb b 97 ≡ y → (z : Bool) → eqb b 101 ≡ z → Means (cond x (Kind.Problem e) (cond y (Kind.Binding 1 e) (cond z (Kind.Binding 2 e) Kind.Clause)))
+      go : (x : Bool) → eqb b 112 ≡ x → (y : Bool) → eqb b 97 ≡ y → (z : Bool) → eqb b 101 ≡ z → Means (cond x (Kind.Problem e) (cond y (Kind.Binding Universal e) (cond z (Kind.Binding Existential e) Kind.Clause)))
       go true i y j z k = line ∙ ap (λ n. by_form (formula_line (token_of (n ∷ []) ∷ tokens_from bs e)) l s) (eqb-true b 112 i)
-      go false i true j z k = (omega arith, omega arith, line ∙ ap (λ n. by_form (formula_line (token_of (n ∷ []) ∷ tokens_from bs e)) l s) (eqb-true b 97 j))
-      go false i false j true k = (omega arith, omega arith, line ∙ ap (λ n. by_form (formula_line (token_of (n ∷ []) ∷ tokens_from bs e)) l s) (eqb-true b 101 k))
+      go false i true j z k = line ∙ ap (λ n. by_form (formula_line (token_of (n ∷ []) ∷ tokens_from bs e)) l s) (eqb-true b 97 j)
+      go false i false j true k = line ∙ ap (λ n. by_form (formula_line (token_of (n ∷ []) ∷ tokens_from bs e)) l s) (eqb-true b 101 k)
       go false i false j false k =
           as_clause (line ∙ ap (λ x. by_form x l s) (plain_line (b ∷ []) (tokens_from bs e) (other_byte b 112 i) (other_byte b 97 j) (other_byte b 101 k))) (head_letter bs h).1
 

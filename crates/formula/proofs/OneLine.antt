@@ -3,10 +3,12 @@ use mathlib.Core.Path.{◌≡◌, refl, ap, sym, ◌∙◌, subst}
 use mathlib.Core.Bool.{Bool, true, false, not}
 use mathlib.Core.List.{List, [], ◌∷◌, map}
 use mathlib.Core.Option.{Option, none, some}
-use Prim.Native.Nat.{ℕ, ◌≤◌}
+use Prim.Native.Nat.{ℕ}
 use native.Mathlib.Omega.{arith}
 use lib.ListN.{length}
 use lib.IntN.{ℤ}
+use Rattle.std.specs.Prelude.{Some, None, Ok, Err}
+use Rattle.rules.specs.declared.Rule.TheVariants.{Malformed}
 use Rattle.lines.specs.Lists.{is_empty}
 use Rattle.lines.specs.Lines.{Token, number, minus, word}
 use Rattle.lines.specs.Scan.{tokens_from, head_of}
@@ -15,17 +17,16 @@ use Rattle.rules.specs.Basics.{maybe}
 use Rattle.rules.specs.Literals.{Lits}
 use Rattle.rules.specs.Formula.{Formula}
 use Rattle.rules.specs.Forms.{problem, binding, clause, provided, literal, numeral, the_word, one, whole, problem_form, ◌>>=◌}
-use Rattle.rules.specs.Needs.{Places, places, formula_needs_so_far}
+use Rattle.rules.specs.Needs.{Places, formula_needs_so_far}
 use Rattle.rules.specs.Step.{Step, refuse}
 use Rattle.rules.specs.FormulaLines.{judge_formula}
 use Rattle.lists.specs.Lists.{exactly}
 use Rattle.lists.proofs.FormLaws.{clause_form_lem, binding_form_lem}
+use Rattle.formula.specs.declared.Quantifier.{Quantifier}
 use Rattle.formula.specs.declared.Kind.{Kind}
 use Rattle.formula.specs.declared.Reading.{Reading}
-use Rattle.formula.specs.declared.State.{State}
-use Rattle.formula.specs.declared.Outcome.{Outcome}
-use Rattle.formula.specs.Kinds.{kind_of}
-use Rattle.formula.specs.Judged.{quantifier, line_judge, by_form, problem_judge, binding_judge, clause_judge, Judged, LineRead, Able}
+use Rattle.formula.specs.Kinds.{number_of, kind_of}
+use Rattle.formula.specs.Judged.{State, Outcome, quantifier, line_judge, by_form, problem_judge, binding_judge, clause_judge, Judged, LineRead}
 use Rattle.formula.proofs.LineKinds.{Means, kind_means}
 use Rattle.formula.proofs.Steps.{untouched, start_untouched}
 
@@ -92,49 +93,43 @@ module _ (bs : List ℕ) where
   known : (l : Places) (f : Option Formula) {k : Kind} → kind_of (head_of bs) ≡ k → Means bs l f k
   known l f e = subst (Means bs l f) e (kind_means bs l f)
 
-  skip_judged : (s : State) (p m : List ℤ) → kind_of (head_of bs) ≡ Kind.Skip → LineRead (line_judge bs) s (length bs) p m (Outcome.Next s) p m
+  skip_judged : (s : State) (p m : List ℤ) → kind_of (head_of bs) ≡ Kind.Skip → LineRead (line_judge bs) s (length bs) p m (Ok s) p m
   skip_judged s p m k = record {
-    judged = λ l f o h. subst (λ x. Judged x p m (Outcome.Next s) p m) (sym (known l f k)) (record { stepped = h; prefix = kept_self (formula_needs_so_far f).prefix p; matrix = kept_self (formula_needs_so_far f).matrix m });
+    judged = λ l f o h. subst (λ x. Judged x p m (Ok s) p m) (sym (known l f k)) (record { stepped = h; prefix = kept_self (formula_needs_so_far f).prefix p; matrix = kept_self (formula_needs_so_far f).matrix m });
     grows = omega arith;
   }
 
   -- BEFORE THE `p` LINE
   module _ (p m : List ℤ) where
-    pub first_skip : kind_of (head_of bs) ≡ Kind.Skip → LineRead (line_judge bs) State.Start (length bs) p m (Outcome.Next State.Start) p m
-    first_skip k = skip_judged State.Start p m k
+    pub first_skip : kind_of (head_of bs) ≡ Kind.Skip → LineRead (line_judge bs) None (length bs) p m (Ok None) p m
+    first_skip k = skip_judged None p m k
 
-    pub first_problem : {e : ℕ} {t : Outcome} {u : List ℤ} → kind_of (head_of bs) ≡ Kind.Problem e → LineRead (problem_judge bs e) State.Start (length bs) p m t u m
-        → LineRead (line_judge bs) State.Start (length bs) p m t u m
+    pub first_problem : {e : ℕ} {t : Outcome} {u : List ℤ} → kind_of (head_of bs) ≡ Kind.Problem e → LineRead (problem_judge bs e) None (length bs) p m t u m
+        → LineRead (line_judge bs) None (length bs) p m t u m
     first_problem k h = judged_as (λ l f. known l f k) h
 
-    pub first_binding : {q e : ℕ} → kind_of (head_of bs) ≡ Kind.Binding q e → LineRead (line_judge bs) State.Start (length bs) p m (Outcome.Refuse 2) p m
-    first_binding {q} {e} k = start_untouched (line_judge bs) (length bs) p m none (λ l o. (known l none k).2 ∙ early_binding bs e q l)
+    pub first_binding : {q : Quantifier} {e : ℕ} → kind_of (head_of bs) ≡ Kind.Binding q e → LineRead (line_judge bs) None (length bs) p m (Err Malformed) p m
+    first_binding {q} {e} k = start_untouched (line_judge bs) (length bs) p m none (λ l o. known l none k ∙ early_binding bs e (number_of q) l)
 
-    pub first_clause : kind_of (head_of bs) ≡ Kind.Clause → LineRead (line_judge bs) State.Start (length bs) p m (Outcome.Refuse 2) p m
+    pub first_clause : kind_of (head_of bs) ≡ Kind.Clause → LineRead (line_judge bs) None (length bs) p m (Err Malformed) p m
     first_clause k = start_untouched (line_judge bs) (length bs) p m none (λ l o. known l none k ∙ early_clause bs l)
 
     -- AFTER THE `p` LINE
     module _ (r : Reading) where
-      pub within_skip : kind_of (head_of bs) ≡ Kind.Skip → LineRead (line_judge bs) (State.Within r) (length bs) p m (Outcome.Next (State.Within r)) p m
-      within_skip k = skip_judged (State.Within r) p m k
+      pub within_skip : kind_of (head_of bs) ≡ Kind.Skip → LineRead (line_judge bs) (Some r) (length bs) p m (Ok (Some r)) p m
+      within_skip k = skip_judged (Some r) p m k
 
-      pub within_problem : {e : ℕ} → kind_of (head_of bs) ≡ Kind.Problem e → LineRead (line_judge bs) (State.Within r) (length bs) p m (Outcome.Refuse 2) p m
+      pub within_problem : {e : ℕ} → kind_of (head_of bs) ≡ Kind.Problem e → LineRead (line_judge bs) (Some r) (length bs) p m (Err Malformed) p m
       within_problem {e} k = untouched (line_judge bs) (length bs) p m r some (λ l f o h. known l (some f) k ∙ late_problem l f bs e)
 
-      pub within_binding : {q e : ℕ} {t : Outcome} {u : List ℤ} → kind_of (head_of bs) ≡ Kind.Binding q e → LineRead (binding_judge bs e q) (State.Within r) (length bs) p m t u m
-          → LineRead (line_judge bs) (State.Within r) (length bs) p m t u m
-      within_binding k h = judged_as (λ l f. (known l f k).2) h
+      pub within_binding : {q : Quantifier} {e : ℕ} {t : Outcome} {u : List ℤ} → kind_of (head_of bs) ≡ Kind.Binding q e → LineRead (binding_judge bs e (number_of q)) (Some r) (length bs) p m t u m
+          → LineRead (line_judge bs) (Some r) (length bs) p m t u m
+      within_binding k h = judged_as (λ l f. known l f k) h
 
-      pub within_clause : {t : Outcome} {w : List ℤ} → kind_of (head_of bs) ≡ Kind.Clause → LineRead (clause_judge bs) (State.Within r) (length bs) p m t p w
-          → LineRead (line_judge bs) (State.Within r) (length bs) p m t p w
+      pub within_clause : {t : Outcome} {w : List ℤ} → kind_of (head_of bs) ≡ Kind.Clause → LineRead (clause_judge bs) (Some r) (length bs) p m t p w
+          → LineRead (line_judge bs) (Some r) (length bs) p m t p w
       within_clause k h = judged_as (λ l f. known l f k) h
-
-  pub quantifier_number : {q e : ℕ} → kind_of (head_of bs) ≡ Kind.Binding q e → (1 ≤ q) × (q ≤ 2)
-  quantifier_number k = let x = known (places 0 0 0 0 0 0) none k in (x.0, x.1)
 
 -- the state by another name
 pub read_in : {judge : Places → Option Formula → Step (Option Formula)} {s t : State} {n : ℕ} {p m u w : List ℤ} {x : Outcome} → s ≡ t → LineRead judge t n p m x u w → LineRead judge s n p m x u w
 read_in {judge} {s} {t} {n} {p} {m} {u} {w} {x} e h = subst (λ s. LineRead judge s n p m x u w) (sym e) h
-
-pub able_in : {n : ℕ} {s t : State} {m : List ℤ} → s ≡ t → Able n s m → Able n t m
-able_in {n} {s} {t} {m} e h = subst (λ s. Able n s m) e h

@@ -8,6 +8,8 @@ use lib.ListN.{length, set, length-set, length-append}
 use lib.IntN.{ℤ, pos}
 use lib.Dec.{eqb, leb}
 use borrow.Author.Tests.{eq-eqb, ne_eqb, eqb-true, eqb-false, leb-true}
+use Rattle.std.specs.Prelude.{Ok, Err}
+use Rattle.rules.specs.declared.Rule.TheVariants.{BoundTwice}
 use Rattle.lines.specs.Lists.{all}
 use Rattle.cells.specs.Cells.{cell_at, Kept}
 use Rattle.cells.proofs.Laws.{at_same, at_other, kept_self, kept_set, kept_chain}
@@ -19,7 +21,6 @@ use Rattle.rules.proofs.Kit.{and_l, and_r}
 use Rattle.rules.proofs.CodesLaw.{var_code}
 use Rattle.lists.specs.Stores.{written, in_range}
 use Rattle.prefix.specs.Prefix.{entry, kind_of, mark_from, Shows}
-use Rattle.formula.specs.declared.Marked.{Marked}
 use Rattle.prefix.specs.Prefix.{is_bound}
 use Rattle.formula.specs.Tables.{Pass, pass}
 use Rattle.formula.specs.Judged.{quantifier}
@@ -187,8 +188,8 @@ module _ (n : ℕ) (p : List ℤ) (bs : List Bound) (s : Shows p n bs) where
 -- THE SECOND PASS OVER A PREFIX LINE, when all its variables are in range: the answer says whether they are fresh, and the table
 -- then shows them
 abbrev pub Says : Pass → Bool → ℕ → ℕ → List Bound → Type 0
-Says x true n j bs = (x.answer ≡ Marked.Done j) × Shows x.table n bs
-Says x false n j bs = x.answer ≡ Marked.Twice
+Says x true n j bs = (x.answer ≡ Ok j) × Shows x.table n bs
+Says x false n j bs = x.answer ≡ (Err BoundTwice)
 
 pub record PassIs (n j : ℕ) (p : List ℤ) (b : Bool) (bs : List Bound) (x : Pass) : Type 0 where
   pub kept : Kept n p x.table
@@ -204,15 +205,15 @@ module _ (n q : ℕ) (least : 1 ≤ q) (most : q ≤ 2) where
   -- a variable in range
   module _ (l : Lit) (xs : List ℕ) (p : List ℤ) (bs : List Bound) (k : ℕ) (s : Shows p n bs) (low : 1 ≤ var l) (high : var l ≤ n) where
     abbrev after : Bool → Pass
-    after b = cond b (record { answer = Marked.Twice; table = p }) (pass q (k + 1) xs (set p (var l - 1) (pos (2 * k + q))))
+    after b = cond b (record { answer = (Err BoundTwice); table = p }) (pass q (k + 1) xs (set p (var l - 1) (pos (2 * k + q))))
 
     one_more : pass q k (code_of l ∷ xs) p ≡ after (is_in (bounds bs) (var l))
     unfolding pass
     one_more =
         let z : code_of l ≡ 0 → ⊥ = λ e. omega (arith, low) in
-        ap₂ (λ a b. cond a (record { answer = Marked.Done k; table = p }) (cond b (record { answer = Marked.Twice; table = p }) (pass q (k + 1) xs (set p (code_of l / 2 - 1) (pos (2 * k + q))))))
+        ap₂ (λ a b. cond a (record { answer = Ok k; table = p }) (cond b (record { answer = (Err BoundTwice); table = p }) (pass q (k + 1) xs (set p (code_of l / 2 - 1) (pos (2 * k + q))))))
         (ne_eqb (code_of l) 0 z) (shows_code n p bs s l low high)
-        ∙ ap (λ v. cond (is_in (bounds bs) (var l)) (record { answer = Marked.Twice; table = p }) (pass q (k + 1) xs (set p (v - 1) (pos (2 * k + q))))) (var_code l)
+        ∙ ap (λ v. cond (is_in (bounds bs) (var l)) (record { answer = (Err BoundTwice); table = p }) (pass q (k + 1) xs (set p (v - 1) (pos (2 * k + q))))) (var_code l)
 
     shows_more : k ≡ length bs → n ≤ length p → is_in (bounds bs) (var l) ≡ false → Shows (set p (var l - 1) (pos (2 * k + q))) n (bs ++ (quantifier q (var l) ∷ []))
     shows_more e r f =
@@ -227,7 +228,7 @@ module _ (n q : ℕ) (least : 1 ≤ q) (most : q ≤ 2) where
   unfolding pass fresh
   pass_is [] p bs k e r s h =
       let j : k ≡ k + 0 = omega arith in
-      record { kept = kept_self n p; says = (ap Marked.Done j, subst (Shows p n) (sym (append-nil bs)) s) }
+      record { kept = kept_self n p; says = (ap Ok j, subst (Shows p n) (sym (append-nil bs)) s) }
   pass_is (l ∷ c) p bs k e r s h =
       subst (PassIs n (k + suc (length c)) p (not (is_in (bounds bs) (var l)) && fresh (bounds bs ++ (var l ∷ [])) (vars c)) (bs ++ (quantifier q (var l) ∷ map (quantifier q) (vars c))))
       (sym (one_more l (written c) p bs k s low high))
@@ -252,7 +253,7 @@ module _ (n q : ℕ) (least : 1 ≤ q) (most : q ≤ 2) where
           → (k + 1 ≡ length new → n ≤ length table → Shows table n new → in_range n (vars c) ≡ true
           → PassIs n (k + 1 + length c) table (fresh (bounds new) (vars c)) (new ++ map (quantifier q) (vars c)) (pass q (k + 1) (written c) table))
           → PassIs n (k + suc (length c)) p (not t && fresh (bounds bs ++ (var l ∷ [])) (vars c)) (bs ++ (quantifier q (var l) ∷ map (quantifier q) (vars c)))
-          (cond t (record { answer = Marked.Twice; table = p }) (pass q (k + 1) (written c) table))
+          (cond t (record { answer = (Err BoundTwice); table = p }) (pass q (k + 1) (written c) table))
       go true f i = record { kept = kept_self n p; says = refl }
       go false f i =
           let j : k + 1 + length c ≡ k + suc (length c) = omega arith in

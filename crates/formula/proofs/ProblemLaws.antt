@@ -11,9 +11,10 @@ use lib.Seq.{sets-eq}
 use lib.IntN.{ℤ}
 use lib.Dec.{leb}
 use borrow.Author.Tests.{le-leb, lt-leb}
+use Rattle.std.specs.Prelude.{Some, None, Ok, Err}
+use Rattle.rules.specs.declared.Rule.TheVariants.{Malformed, OutOfRange, TableFull}
 use Rattle.lines.specs.Bytes.{class_of, same_bytes}
 use Rattle.lines.specs.Lines.{Token, number, minus, word, token_of}
-use Rattle.lines.specs.declared.Found.{Found}
 use Rattle.lines.specs.Scan.{tokens_from, ended_at, word_is}
 use Rattle.lines.proofs.Words.{word_found, word_missed}
 use Rattle.cells.specs.Cells.{cells_of, Kept}
@@ -23,14 +24,11 @@ use Rattle.rules.specs.Forms.{FormulaLine, problem, problem_form, one, numeral, 
 use Rattle.rules.specs.Needs.{Places, formula_needs}
 use Rattle.rules.specs.Step.{Step, next, refuse_in, ◌unless◌}
 use Rattle.rules.specs.FormulaLines.{judge_formula, blank}
-use Rattle.lists.specs.declared.Natural.{Natural}
 use Rattle.lists.specs.Lists.{natural_at}
 use Rattle.lists.specs.Stores.{puts, flat}
 use Rattle.lists.proofs.NaturalLaws.{Numeral, natural_told}
 use Rattle.lists.proofs.StoreLaws.{cells_puts, kept_puts}
 use Rattle.prefix.specs.Prefix.{mark_from, Shows}
-use Rattle.formula.specs.declared.State.{State}
-use Rattle.formula.specs.declared.Outcome.{Outcome}
 use Rattle.formula.specs.Holds.{Holds}
 use Rattle.formula.specs.Judged.{by_form, problem_judge, LineRead}
 use Rattle.formula.proofs.LineKinds.{word_is_lem}
@@ -50,7 +48,7 @@ abbrev after_word : List Token → Option (List ℕ) → Option FormulaLine
 after_word ts x = x >>= paired ts >>= λ r. numbers r.1
 
 module _ (bs : List ℕ) (at : ℕ) where
-  form_missed : word_is bs at cnf ≡ Found.Nothing → problem_form (tokens_from bs at) ≡ none
+  form_missed : word_is bs at cnf ≡ None → problem_form (tokens_from bs at) ≡ none
   form_missed h = ⊎_elim (λ e. ap problem_form e) (λ k. ap problem_form k.2 ∙ ap (after_word k.1) (no_word k.0 k.3)) (word_missed bs at cnf h)
     where
       no_word : (w : List ℕ) → same_bytes w cnf ≡ false → the_word "cnf" (token_of w) ≡ none
@@ -61,7 +59,7 @@ module _ (bs : List ℕ) (at : ℕ) where
           go (minus n) k = refl
           go (word v) k = ap (λ x. cond x (some v) none) (ap (λ x. same_bytes x cnf) (sym (word_is_lem w v k)) ∙ e)
 
-  form_found : {e : ℕ} → word_is bs at cnf ≡ Found.After e → problem_form (tokens_from bs at) ≡ numbers (tokens_from bs e)
+  form_found : {e : ℕ} → word_is bs at cnf ≡ Some e → problem_form (tokens_from bs at) ≡ numbers (tokens_from bs e)
   unfolding class_of
   form_found {e} h = ap problem_form (word_found bs at cnf h).0
 
@@ -90,28 +88,28 @@ abbrev two : Formula → Bool → Bool → Step (Option Formula)
 two g a b = refuse_in none (3 unless a) (refuse_in (some g) (15 unless b) (next (some g)))
 
 module _ (bs : List ℕ) (at : ℕ) (p m : List ℤ) where
-  no_form : problem_form (tokens_from bs at) ≡ none → LineRead (problem_judge bs at) State.Start (length bs) p m (Outcome.Refuse 2) p m
+  no_form : problem_form (tokens_from bs at) ≡ none → LineRead (problem_judge bs at) None (length bs) p m (Err Malformed) p m
   unfolding problem_judge
   no_form e = start_untouched (problem_judge bs at) (length bs) p m none (λ l o. ap (λ x. by_form x l none) e)
 
-  pub problem_missed : word_is bs at cnf ≡ Found.Nothing → LineRead (problem_judge bs at) State.Start (length bs) p m (Outcome.Refuse 2) p m
+  pub problem_missed : word_is bs at cnf ≡ None → LineRead (problem_judge bs at) None (length bs) p m (Err Malformed) p m
   problem_missed h = no_form (form_missed bs at h)
 
-  module _ {e : ℕ} (h : word_is bs at cnf ≡ Found.After e) where
-    pub problem_first : natural_at bs e ≡ Natural.Bad → LineRead (problem_judge bs at) State.Start (length bs) p m (Outcome.Refuse 2) p m
+  module _ {e : ℕ} (h : word_is bs at cnf ≡ Some e) where
+    pub problem_first : natural_at bs e ≡ None → LineRead (problem_judge bs at) None (length bs) p m (Err Malformed) p m
     problem_first z = no_form (form_found bs at h ∙ ap (λ x. x >>= λ r. one numeral r.1 >>= λ s. whole (problem r.0 s.0) s.1) (natural_told bs e z).0)
 
-    module _ {v i : ℕ} (a : natural_at bs e ≡ Natural.Of v i) where
+    module _ {v i : ℕ} (a : natural_at bs e ≡ Some (v, i)) where
       big : Numeral bs e v i
       big = natural_told bs e a
 
       form_1 : problem_form (tokens_from bs at) ≡ (one numeral (tokens_from bs i) >>= λ s. whole (problem big.value s.0) s.1)
       form_1 = form_found bs at h ∙ ap numbers big.first
 
-      pub problem_second : natural_at bs i ≡ Natural.Bad → LineRead (problem_judge bs at) State.Start (length bs) p m (Outcome.Refuse 2) p m
+      pub problem_second : natural_at bs i ≡ None → LineRead (problem_judge bs at) None (length bs) p m (Err Malformed) p m
       problem_second z = no_form (form_1 ∙ ap (λ x. x >>= λ s. whole (problem big.value s.0) s.1) (natural_told bs i z).0)
 
-      module _ {c j : ℕ} (b : natural_at bs i ≡ Natural.Of c j) where
+      module _ {c j : ℕ} (b : natural_at bs i ≡ Some (c, j)) where
         many : Numeral bs i c j
         many = natural_told bs i b
 
@@ -121,7 +119,7 @@ module _ (bs : List ℕ) (at : ℕ) (p m : List ℤ) where
             form_1 ∙ ap (λ ts. one numeral ts >>= λ s. whole (problem big.value s.0) s.1) many.first
             ∙ ap (λ t. provided t (problem big.value many.value)) (sym g)
 
-        pub problem_long : {t : Bool} → t ≡ ended_at bs j → t ≡ false → LineRead (problem_judge bs at) State.Start (length bs) p m (Outcome.Refuse 2) p m
+        pub problem_long : {t : Bool} → t ≡ ended_at bs j → t ≡ false → LineRead (problem_judge bs at) None (length bs) p m (Err Malformed) p m
         problem_long g k = no_form (form_2 (sym k ∙ g))
 
         module _ {t : Bool} (g : t ≡ ended_at bs j) (k : t ≡ true) where
@@ -131,7 +129,7 @@ module _ (bs : List ℕ) (at : ℕ) (p m : List ℤ) where
               ap (λ x. by_form x l none) (form_2 (sym k ∙ g))
               ∙ ap (two (blank big.value many.value) (leb big.value 4096 && leb many.value 8192)) (fits_formula l (blank big.value many.value))
 
-          pub problem_high : 4096 < v → LineRead (problem_judge bs at) State.Start (length bs) p m (Outcome.Refuse 3) p m
+          pub problem_high : 4096 < v → LineRead (problem_judge bs at) None (length bs) p m (Err OutOfRange) p m
           problem_high x = start_untouched (problem_judge bs at) (length bs) p m none (λ l o. rules l ∙
               ap (λ y. two (blank big.value many.value) (y && leb many.value 8192) (leb big.value l.prefix && leb 0 l.matrix)) (lt-leb big.value 4096 (omega (arith, big.capped))))
 
@@ -139,7 +137,7 @@ module _ (bs : List ℕ) (at : ℕ) (p m : List ℤ) where
             same : big.value ≡ v
             same = omega (arith, big.capped)
 
-            pub problem_many : 8192 < c → LineRead (problem_judge bs at) State.Start (length bs) p m (Outcome.Refuse 3) p m
+            pub problem_many : 8192 < c → LineRead (problem_judge bs at) None (length bs) p m (Err OutOfRange) p m
             problem_many y = start_untouched (problem_judge bs at) (length bs) p m none (λ l o. rules l ∙
                 ap₂ (λ a b. two (blank big.value many.value) (a && b) (leb big.value l.prefix && leb 0 l.matrix)) (le-leb big.value 4096 (omega (arith, same))) (lt-leb many.value 8192 (omega (arith, many.capped))))
 
@@ -153,11 +151,11 @@ module _ (bs : List ℕ) (at : ℕ) (p m : List ℤ) where
                   ∙ ap₂ (λ a b. two (blank v c) (a && b) (leb v l.prefix && leb 0 l.matrix)) (le-leb v 4096 x) (le-leb c 8192 y)
                   ∙ ap₂ (λ a b. two (blank v c) true (a && b)) z (le-leb 0 l.matrix (omega arith))
 
-              pub problem_full : {n : ℕ} → n ≡ v → length p < n → LineRead (problem_judge bs at) State.Start (length bs) p m (Outcome.Refuse 15) p m
+              pub problem_full : {n : ℕ} → n ≡ v → length p < n → LineRead (problem_judge bs at) None (length bs) p m (Err TableFull) p m
               problem_full q z = start_untouched (problem_judge bs at) (length bs) p m (some (blank v c)) (λ l o. first l (lt-leb v l.prefix (omega (arith, o.prefix))))
 
               pub problem_done : {n : ℕ} {u : List ℤ} → n ≡ v → n ≤ length p → u ≡ puts p 0 (zeros n)
-                  → LineRead (problem_judge bs at) State.Start (length bs) p m (Outcome.Next (State.Within (record { v = v; c = c; bound = 0; clauses = 0; used = 0 }))) u m
+                  → LineRead (problem_judge bs at) None (length bs) p m (Ok (Some (record { v = v; c = c; bound = 0; clauses = 0; used = 0 }))) u m
               unfolding flat formula_needs
               problem_done {n} {u} q z d = read_start (problem_judge bs at) (length bs) p m (λ l o.
                   accepted (first l (le-leb v l.prefix (omega (arith, o.prefix)))) holds kept (kept_self 0 m)) (omega arith)

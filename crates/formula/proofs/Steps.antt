@@ -1,7 +1,7 @@
 -- Laws of a line's step, and of the needs. Assumes nothing.
 use mathlib.Core.Path.{◌≡◌, refl, ap, ap₂, sym, ◌∙◌, subst}
 use mathlib.Core.Bool.{Bool, true, false, ◌&&◌}
-use mathlib.Core.List.{List, [], ◌∷◌, ◌++◌, map}
+use mathlib.Core.List.{List, [], ◌∷◌, ◌++◌}
 use mathlib.Core.Option.{Option, none, some}
 use Prim.Native.Nat.{ℕ, ◌+◌}
 use native.Mathlib.Omega.{arith}
@@ -9,6 +9,9 @@ use lib.Dec.{leb}
 use lib.ListN.{length, length-append}
 use lib.IntN.{ℤ}
 use borrow.Author.Tests.{le-leb}
+use Rattle.std.specs.Prelude.{Some, None, Ok, Err}
+use Rattle.rules.specs.declared.Rule.{Rule}
+use Rattle.rules.specs.Rule.{number}
 use Rattle.lines.specs.Lists.{all}
 use Rattle.cells.specs.Cells.{Kept}
 use Rattle.cells.proofs.Laws.{kept_self}
@@ -21,48 +24,46 @@ use Rattle.rules.proofs.Kit.{and_l, and_r, and_i}
 use Rattle.lists.specs.Stores.{written, flat}
 use Rattle.lists.proofs.StoreLaws.{length_written, flat_snoc, length_flat}
 use Rattle.formula.specs.declared.Reading.{Reading}
-use Rattle.formula.specs.declared.State.{State}
-use Rattle.formula.specs.declared.Outcome.{Outcome}
 use Rattle.formula.specs.Holds.{Holds, Sized}
-use Rattle.formula.specs.Judged.{Holding, Judged, Grows, LineRead}
+use Rattle.formula.specs.Judged.{Outcome, Holding, Judged, Grows, LineRead}
 
 -- a refusal, and an accepted line
-pub refused : {x : Step (Option Formula)} {n : ℕ} {g : Option Formula} {p m u w : List ℤ} → x ≡ refuse n g
-    → Kept (formula_needs_so_far g).prefix p u → Kept (formula_needs_so_far g).matrix m w → Judged x p m (Outcome.Refuse n) u w
-refused {x} {n} {g} {p} {m} {u} {w} e a b =
-    subst (λ x. Judged x p m (Outcome.Refuse n) u w) (sym e) (record { stepped = refl; prefix = a; matrix = b })
+pub refused : {x : Step (Option Formula)} {rule : Rule} {g : Option Formula} {p m u w : List ℤ} → x ≡ refuse (number rule) g
+    → Kept (formula_needs_so_far g).prefix p u → Kept (formula_needs_so_far g).matrix m w → Judged x p m (Err rule) u w
+refused {x} {rule} {g} {p} {m} {u} {w} e a b =
+    subst (λ x. Judged x p m (Err rule) u w) (sym e) (record { stepped = refl; prefix = a; matrix = b })
 
 pub accepted : {x : Step (Option Formula)} {f : Formula} {r : Reading} {p m u w : List ℤ} → x ≡ next (some f) → Holds r u w f
-    → Kept (formula_needs f).prefix p u → Kept (formula_needs f).matrix m w → Judged x p m (Outcome.Next (State.Within r)) u w
+    → Kept (formula_needs f).prefix p u → Kept (formula_needs f).matrix m w → Judged x p m (Ok (Some r)) u w
 accepted {x} {f} {r} {p} {m} {u} {w} e h a b =
-    subst (λ x. Judged x p m (Outcome.Next (State.Within r)) u w) (sym e) (record { stepped = h; prefix = a; matrix = b })
+    subst (λ x. Judged x p m (Ok (Some r)) u w) (sym e) (record { stepped = h; prefix = a; matrix = b })
 
 module _ (judge : Places → Option Formula → Step (Option Formula)) (n : ℕ) (p m : List ℤ) where
-  pub read_start : {t : Outcome} {u w : List ℤ} → ((l : Places) → Sized l p m → Judged (judge l none) p m t u w) → Grows n t → LineRead judge State.Start n p m t u w
+  pub read_start : {t : Outcome} {u w : List ℤ} → ((l : Places) → Sized l p m → Judged (judge l none) p m t u w) → Grows n t → LineRead judge None n p m t u w
   read_start {t} {u} {w} h g = record { judged = go; grows = subst (λ k. Grows k t) (the_same n) g }
     where
       the_same : (n : ℕ) → n ≡ 0 + n
       the_same n = omega arith
 
-      go : (l : Places) (f : Option Formula) → Sized l p m → Holding State.Start p m f → Judged (judge l f) p m t u w
+      go : (l : Places) (f : Option Formula) → Sized l p m → Holding None p m f → Judged (judge l f) p m t u w
       go l none o k = h l o
       go l (some f) o k = absurd k
 
   module _ (r : Reading) where
     pub read_within : {t : Outcome} {u w : List ℤ} → ((l : Places) (f : Formula) → Sized l p m → Holds r p m f → Judged (judge l (some f)) p m t u w) → Grows (r.bound + n) t
-        → LineRead judge (State.Within r) n p m t u w
+        → LineRead judge (Some r) n p m t u w
     read_within {t} {u} {w} h g = record { judged = go; grows = g }
       where
-        go : (l : Places) (f : Option Formula) → Sized l p m → Holding (State.Within r) p m f → Judged (judge l f) p m t u w
+        go : (l : Places) (f : Option Formula) → Sized l p m → Holding (Some r) p m f → Judged (judge l f) p m t u w
         go l none o k = absurd k
         go l (some f) o k = h l f o k
 
     -- a line that is refused before anything is stored
-    pub untouched : {k : ℕ} (g : Formula → Option Formula) → ((l : Places) (f : Formula) → Sized l p m → Holds r p m f → judge l (some f) ≡ refuse k (g f))
-        → LineRead judge (State.Within r) n p m (Outcome.Refuse k) p m
+    pub untouched : {rule : Rule} (g : Formula → Option Formula) → ((l : Places) (f : Formula) → Sized l p m → Holds r p m f → judge l (some f) ≡ refuse (number rule) (g f))
+        → LineRead judge (Some r) n p m (Err rule) p m
     untouched g e = read_within (λ l f o h. refused (e l f o h) (kept_self (formula_needs_so_far (g f)).prefix p) (kept_self (formula_needs_so_far (g f)).matrix m)) tt
 
-  pub start_untouched : {k : ℕ} (g : Option Formula) → ((l : Places) → Sized l p m → judge l none ≡ refuse k g) → LineRead judge State.Start n p m (Outcome.Refuse k) p m
+  pub start_untouched : {rule : Rule} (g : Option Formula) → ((l : Places) → Sized l p m → judge l none ≡ refuse (number rule) g) → LineRead judge None n p m (Err rule) p m
   start_untouched g e = read_start (λ l o. refused (e l o) (kept_self (formula_needs_so_far g).prefix p) (kept_self (formula_needs_so_far g).matrix m)) tt
 
 -- THE NEEDS OF A FORMULA

@@ -1,5 +1,5 @@
 -- The whole formula. Assumes nothing.
-use Rattle.std.specs.Prelude.{◌≡◌, cond, List, ℕ, eqb, leb, length, ℤ}
+use Rattle.std.specs.Prelude.{◌≡◌, cond, List, ℕ, eqb, leb, length, ℤ, Some, None, Result, Ok, Err}
 use Rattle.std.proofs.Math.Option.{Option, none, some}
 use Rattle.cells.specs.Cells.{Kept}
 use Rattle.rules.specs.Formula.{Formula}
@@ -7,23 +7,30 @@ use Rattle.rules.specs.Needs.{Places, formula_needs_so_far}
 use Rattle.rules.specs.Limits.{limits}
 use Rattle.rules.specs.Step.{Read, ended, refused_at}
 use Rattle.rules.specs.FormulaLines.{read_formula}
-use Rattle.formula.specs.declared.State.{State}
-use Rattle.formula.specs.declared.Answer.{Answer}
+use Rattle.rules.specs.Rule.{number, of_file}
+use Rattle.rules.specs.declared.Rule.TheVariants.{Malformed, WrongClauseCount}
+use Rattle.rules.specs.declared.Refusal.{Refusal}
+use Rattle.formula.specs.declared.Reading.{Reading}
 use Rattle.formula.specs.Holds.{Holds, Sized}
+use Rattle.formula.specs.Judged.{State}
+
+-- what the code answers: what it read, or the rule that is broken and the line
+abbrev pub Answer : Type 0
+Answer = Result Reading Refusal
 
 -- "fewer than C", "no `p` line": what is said at the end of the file
 abbrev pub close_of : State → Answer
-close_of State.Start = Answer.Refused 2 0
-close_of (State.Within r) = cond (eqb r.clauses r.c) (Answer.Done r) (Answer.Refused 6 0)
+close_of None = Err (of_file Malformed)
+close_of (Some r) = cond (eqb r.clauses r.c) (Ok r) (Err (of_file WrongClauseCount))
 
 -- WHAT AN ANSWER SAYS, by what the rules read: the refusal's number and line, or the formula that the tables u and w show
 abbrev pub AnswerIs : Read (Option Formula) → Answer → List ℤ → List ℤ → Type 0
-AnswerIs (ended none) (Answer.Done r) u w = ⊥
-AnswerIs (ended none) (Answer.Refused number line) u w = (number ≡ 2) × (line ≡ 0)
-AnswerIs (ended (some f)) (Answer.Done r) u w = Holds r u w f × (length f.matrix ≡ r.c)
-AnswerIs (ended (some f)) (Answer.Refused number line) u w = ⊥
-AnswerIs (refused_at n i s) (Answer.Done r) u w = ⊥
-AnswerIs (refused_at n i s) (Answer.Refused number line) u w = (number ≡ n) × (line ≡ i)
+AnswerIs (ended none) (Ok r) u w = ⊥
+AnswerIs (ended none) (Err refusal) u w = (number refusal.rule ≡ 2) × (refusal.line ≡ 0)
+AnswerIs (ended (some f)) (Ok r) u w = Holds r u w f × (length f.matrix ≡ r.c)
+AnswerIs (ended (some f)) (Err refusal) u w = ⊥
+AnswerIs (refused_at n i s) (Ok r) u w = ⊥
+AnswerIs (refused_at n i s) (Err refusal) u w = (number refusal.rule ≡ n) × (refusal.line ≡ i)
 
 -- the state in which the reading ended
 abbrev pub read_state : {S : Type 0} → Read S → S

@@ -1,5 +1,6 @@
 -- A line of the formula, as the rules judge it and as the code does. Assumes nothing.
-use Rattle.std.specs.Prelude.{◌≡◌, cond, List, ℕ, ◌+◌, ◌≤◌, eqb, length, ℤ}
+use Rattle.std.specs.Prelude.{◌≡◌, cond, List, ℕ, ◌+◌, ◌≤◌, eqb, length, ℤ, Some, None, Result, Ok, Err}
+use Rattle.std.specs.Prelude as std
 use Rattle.std.proofs.Math.Option.{Option, none, some}
 use Rattle.lines.specs.Scan.{tokens_from}
 use Rattle.cells.specs.Cells.{Kept}
@@ -10,8 +11,9 @@ use Rattle.rules.specs.Needs.{Places, formula_needs_so_far}
 use Rattle.rules.specs.Limits.{limits}
 use Rattle.rules.specs.Step.{Step, next, refuse, judge_bytes}
 use Rattle.rules.specs.FormulaLines.{judge_formula}
-use Rattle.formula.specs.declared.State.{State}
-use Rattle.formula.specs.declared.Outcome.{Outcome}
+use Rattle.rules.specs.declared.Rule.{Rule}
+use Rattle.rules.specs.Rule.{number}
+use Rattle.formula.specs.declared.Reading.{Reading}
 use Rattle.formula.specs.Holds.{Holds, Sized}
 
 -- the quantifier with this number
@@ -35,19 +37,31 @@ binding_judge bs at q = by_form (binding_form (quantifier q) (tokens_from bs at)
 unfoldable pub clause_judge : List ℕ → Places → Option Formula → Step (Option Formula)
 clause_judge bs = by_form (clause_form clause (tokens_from bs 0))
 
+-- WHAT THE CODE CARRIES from line to line, nothing before the `p` line; and what it answers of a line
+abbrev pub State : Type 0
+State = std.Option Reading
+
+abbrev pub Outcome : Type 0
+Outcome = Result State Rule
+
+-- the answer of a line after which something is read
+abbrev pub going_on : Result Reading Rule → Outcome
+going_on (Ok r) = Ok (Some r)
+going_on (Err rule) = Err rule
+
 -- the code's state stands for the rules' state
 abbrev pub Holding : State → List ℤ → List ℤ → Option Formula → Type 0
-Holding State.Start p m none = Unit {0}
-Holding State.Start p m (some f) = ⊥
-Holding (State.Within r) p m none = ⊥
-Holding (State.Within r) p m (some f) = Holds r p m f
+Holding None p m none = Unit {0}
+Holding None p m (some f) = ⊥
+Holding (Some r) p m none = ⊥
+Holding (Some r) p m (some f) = Holds r p m f
 
 -- the rules' step and the code's
 abbrev pub Stepped : Step (Option Formula) → Outcome → List ℤ → List ℤ → Type 0
-Stepped (next f) (Outcome.Next s) p m = Holding s p m f
-Stepped (next f) (Outcome.Refuse k) p m = ⊥
-Stepped (refuse n f) (Outcome.Next s) p m = ⊥
-Stepped (refuse n f) (Outcome.Refuse k) p m = k ≡ n
+Stepped (next f) (Ok s) p m = Holding s p m f
+Stepped (next f) (Err rule) p m = ⊥
+Stepped (refuse n f) (Ok s) p m = ⊥
+Stepped (refuse n f) (Err rule) p m = number rule ≡ n
 
 -- the state that a step gives, or in which it refuses
 abbrev pub state_in : {S : Type 0} → Step S → S
@@ -61,16 +75,16 @@ pub record Judged (x : Step (Option Formula)) (p m : List ℤ) (t : Outcome) (u 
   pub matrix : Kept (formula_needs_so_far (state_in x)).matrix m w
 
 abbrev pub bound_of : State → ℕ
-bound_of State.Start = 0
-bound_of (State.Within r) = r.bound
+bound_of None = 0
+bound_of (Some r) = r.bound
 
 abbrev pub used_of : State → ℕ
-used_of State.Start = 0
-used_of (State.Within r) = r.used
+used_of None = 0
+used_of (Some r) = r.used
 
 abbrev pub Grows : ℕ → Outcome → Type 0
-Grows n (Outcome.Next s) = bound_of s ≤ n
-Grows n (Outcome.Refuse k) = Unit {0}
+Grows n (Ok s) = bound_of s ≤ n
+Grows n (Err rule) = Unit {0}
 
 -- ONE LINE, of n bytes: the tables p and m become u and w, and the code answers t as the rules do
 pub record LineRead (judge : Places → Option Formula → Step (Option Formula)) (s : State) (n : ℕ) (p m : List ℤ) (t : Outcome) (u w : List ℤ) : Type 0 where

@@ -1,16 +1,15 @@
 // The formula read into its two tables.
 #![tactic(auto)]
 
-ghost use Rattle.std.specs.Prelude.{◌≡◌, ◌+◌, ◌≤◌, length};
+ghost use Rattle.std.specs.Prelude.{◌≡◌, ◌+◌, ◌≤◌, length, Some, None};
 ghost use Rattle.lines.specs.Scan.{head_of};
-ghost use Rattle.formula.specs.Kinds.{letter_kind, kind_of};
+ghost use Rattle.formula.specs.Kinds.{number_of, kind_of};
 ghost use Rattle.formula.specs.Tables.{Marks};
-ghost use Rattle.formula.specs.Judged.{problem_judge, binding_judge, clause_judge, line_judge, Able, ReadInPrefix, ReadInBoth};
+ghost use Rattle.formula.specs.Judged.{problem_judge, binding_judge, clause_judge, line_judge, going_on, Able, ReadInPrefix, ReadInBoth};
 ghost use Rattle.formula.specs.Answers.{close_of, Whole, Answered};
 
-use cells::wide;
-use lines::{Found, Head, Literal};
-use lists::{Clause, Ending, Natural};
+use lines::{Head, Lines, Literals};
+use rules::{Refusal, Rule};
 
 // Document 01's limits of V and of C.
 const HIGHEST: u32 = 4096;
@@ -18,7 +17,7 @@ const HIGHEST: u32 = 4096;
 const MOST: u32 = 8192;
 
 // What is read so far: V, C, how many variables are bound, how many clauses there are and how many places of the matrix table they use.
-#[derive(Clone, Copy)]
+#[derive(Clone, Copy, PartialEq, Eq)]
 pub struct Reading {
     pub v: u32,
     pub c: u32,
@@ -27,158 +26,132 @@ pub struct Reading {
     pub used: usize,
 }
 
-// Before and after the `p` line.
-#[derive(Clone, Copy)]
-enum State {
-    Start,
-    Within(Reading),
+// The quantifier of a prefix line, by its number in the prefix table.
+#[derive(Clone, Copy, PartialEq, Eq)]
+enum Quantifier {
+    Universal = 1,
+    Existential,
 }
 
-// A line is accepted, or refused with this number.
-#[derive(Clone, Copy)]
-enum Outcome {
-    Next(State),
-    Refuse(u32),
+impl Quantifier {
+    fn number(self) -> u32
+        ensures { result ≡ number_of self }
+    {
+        self as u32
+    }
 }
 
-// How many variables are bound after a prefix line, or that one of them was bound before, or that a token is no literal.
-#[derive(Clone, Copy)]
-enum Marked {
-    Bad,
-    Twice,
-    Done(u32),
-}
-
-// The second pass over a prefix line: each variable's place gets its position in the prefix and its quantifier, 1 or 2.
-fn put_binding(line: &[u8], at: usize, q: u32, prefix: &mut [i32], bound: u32) -> Marked
-    requires { (bound + length line.now ≤ 1048576) × (q ≤ 2) }
-    ensures { Marks q bound line.now at prefix.old result prefix.new }
+// The second pass over a prefix line: each variable's place gets its position in the prefix and its quantifier. The answer is how many
+// variables are bound then, or that one of them was bound before, or that a token is no literal.
+fn put_binding(
+    line: &[u8],
+    at: usize,
+    quantifier: Quantifier,
+    prefix: &mut [i32],
+    bound: u32,
+) -> Result<u32, Rule>
+    requires { bound + length line.now ≤ 1048576 }
+    ensures { Marks (number_of quantifier) bound line.now at prefix.old result prefix.new }
 {
-    let mut i = at;
+    let q = quantifier.number();
     let mut k = bound;
-    loop {
-        let Literal::Of(x, e) = lines::literal_at(line, i) else {
-            return Marked::Bad;
-        };
+    for (x, _) in Literals::new(line, at) {
         if x == 0 {
-            return Marked::Done(k);
+            return Ok(k);
         }
         if prefix::word_of(prefix, x / 2) != 0 {
-            return Marked::Twice;
+            return Err(Rule::BoundTwice);
         }
-        cells::put(prefix, wide(x / 2 - 1), 2 * k + q);
+        cells::put(prefix, (x / 2 - 1) as usize, 2 * k + q);
         k += 1;
-        i = e;
     }
+    Err(Rule::Malformed)
 }
 
 // A prefix line, from the place after its letter on.
-fn binding_line(line: &[u8], at: usize, q: u32, r: Reading, prefix: &mut [i32]) -> Outcome
-    requires { (r.bound + length line.now ≤ 1048576) × (1 ≤ q) × (q ≤ 2) }
-    ensures { ReadInPrefix (binding_judge line.now at q) (State.Within r) line.now prefix.old result prefix.new }
+fn binding_line(
+    line: &[u8],
+    at: usize,
+    quantifier: Quantifier,
+    r: Reading,
+    prefix: &mut [i32],
+) -> Result<Reading, Rule>
+    requires { r.bound + length line.now ≤ 1048576 }
+    ensures { ReadInPrefix (binding_judge line.now at (number_of quantifier)) (Some r) line.now prefix.old (going_on result) prefix.new }
 {
-    let Clause::Good(s, n, m) = lists::clause_at(line, at) else {
-        return Outcome::Refuse(2);
+    let Some(list) = lists::clause_at(line, at) else {
+        return Err(Rule::Malformed);
     };
-    if s != 0 {
-        return Outcome::Refuse(2);
+    if list.negative || list.count == 0 || r.clauses != 0 {
+        return Err(Rule::Malformed);
     }
-    if n == 0 {
-        return Outcome::Refuse(2);
+    if r.v < list.largest {
+        return Err(Rule::OutOfRange);
     }
-    let v = r.v;
-    let bound = r.bound;
-    if r.clauses != 0 {
-        return Outcome::Refuse(2);
-    }
-    if v < m {
-        return Outcome::Refuse(3);
-    }
-    match put_binding(line, at, q, prefix, bound) {
-        Marked::Bad => Outcome::Refuse(2),
-        Marked::Twice => Outcome::Refuse(4),
-        Marked::Done(k) => Outcome::Next(State::Within(Reading {
-            v,
-            c: r.c,
-            bound: k,
-            clauses: r.clauses,
-            used: r.used,
-        })),
-    }
+    let bound = put_binding(line, at, quantifier, prefix, r.bound)?;
+    Ok(Reading { bound, ..r })
 }
 
 // A clause line.
-fn clause_line(line: &[u8], r: Reading, prefix: &[i32], matrix: &mut [i32]) -> Outcome
+fn clause_line(line: &[u8], r: Reading, prefix: &[i32], matrix: &mut [i32]) -> Result<Reading, Rule>
     requires { r.used ≤ length matrix.old }
-    ensures { ReadInBoth (clause_judge line.now) (State.Within r) line.now
-        prefix.now matrix.old result prefix.now matrix.new }
+    ensures { ReadInBoth (clause_judge line.now) (Some r) line.now
+        prefix.now matrix.old (going_on result) prefix.now matrix.new }
 {
-    let Clause::Good(_, n, most) = lists::clause_at(line, 0) else {
-        return Outcome::Refuse(2);
+    let Some(list) = lists::clause_at(line, 0) else {
+        return Err(Rule::Malformed);
     };
-    let v = r.v;
-    let used = r.used;
-    let room = matrix.len() - used;
-    if v < most {
-        return Outcome::Refuse(3);
+    if r.v < list.largest {
+        return Err(Rule::OutOfRange);
     }
-    if room <= n {
-        return Outcome::Refuse(15);
+    if matrix.len() - r.used <= list.count {
+        return Err(Rule::TableFull);
     }
-    let Ending::Zero = lists::store_list(line, 0, matrix, used) else {
-        return Outcome::Refuse(2);
-    };
-    if !prefix::all_bound(prefix, matrix, used) {
-        return Outcome::Refuse(5);
+    lists::store_list(line, 0, matrix, r.used)?;
+    if !prefix::all_bound(prefix, matrix, r.used) {
+        return Err(Rule::Unbound);
     }
     if r.c <= r.clauses {
-        return Outcome::Refuse(6);
+        return Err(Rule::WrongClauseCount);
     }
-    let clauses = r.clauses + 1;
-    let places = used + n + 1;
-    Outcome::Next(State::Within(Reading {
-        v,
-        c: r.c,
-        bound: r.bound,
-        clauses,
-        used: places,
-    }))
+    Ok(Reading {
+        clauses: r.clauses + 1,
+        used: r.used + list.count + 1,
+        ..r
+    })
 }
 
 // The `p` line, from the place after its letter on.
-fn problem_line(line: &[u8], at: usize, prefix: &mut [i32]) -> Outcome
-    ensures { ReadInPrefix (problem_judge line.now at) State.Start line.now prefix.old result prefix.new }
+fn problem_line(line: &[u8], at: usize, prefix: &mut [i32]) -> Result<Reading, Rule>
+    ensures { ReadInPrefix (problem_judge line.now at) None line.now prefix.old (going_on result) prefix.new }
 {
-    let Found::After(e) = lines::word_is(line, at, b"cnf") else {
-        return Outcome::Refuse(2);
+    let Some(e) = lines::word_is(line, at, b"cnf") else {
+        return Err(Rule::Malformed);
     };
-    let Natural::Of(v, i) = lists::natural_at(line, e) else {
-        return Outcome::Refuse(2);
+    let Some((v, i)) = lists::natural_at(line, e) else {
+        return Err(Rule::Malformed);
     };
-    let Natural::Of(c, j) = lists::natural_at(line, i) else {
-        return Outcome::Refuse(2);
+    let Some((c, j)) = lists::natural_at(line, i) else {
+        return Err(Rule::Malformed);
     };
     if !lines::ended(line, j) {
-        return Outcome::Refuse(2);
+        return Err(Rule::Malformed);
     }
-    if HIGHEST < v {
-        return Outcome::Refuse(3);
+    if HIGHEST < v || MOST < c {
+        return Err(Rule::OutOfRange);
     }
-    if MOST < c {
-        return Outcome::Refuse(3);
-    }
-    let n = wide(v);
+    let n = v as usize;
     if prefix.len() < n {
-        return Outcome::Refuse(15);
+        return Err(Rule::TableFull);
     }
     prefix::clear(prefix, n);
-    Outcome::Next(State::Within(Reading {
+    Ok(Reading {
         v,
         c,
         bound: 0,
         clauses: 0,
         used: 0,
-    }))
+    })
 }
 
 // What a line is, by its first word.
@@ -186,125 +159,112 @@ fn problem_line(line: &[u8], at: usize, prefix: &mut [i32]) -> Outcome
 enum Kind {
     Skip,
     Problem(usize),
-    Binding(u32, usize),
+    Binding(Quantifier, usize),
     Clause,
 }
 
-fn by_letter(b: u8, e: usize) -> Kind
-    ensures { result ≡ letter_kind b e }
-{
-    if b == b'p' {
-        return Kind::Problem(e);
-    }
-    if b == b'a' {
-        return Kind::Binding(1, e);
-    }
-    if b == b'e' {
-        return Kind::Binding(2, e);
-    }
-    Kind::Clause
-}
-
+#[tactic(auto, unfolding(crate::specs::Kinds::letter_kind))]
 fn kind_of(line: &[u8]) -> Kind
     ensures { result ≡ kind_of (head_of line.now) }
 {
     match lines::line_head(line) {
         Head::Skipped => Kind::Skip,
-        Head::Letter(b, e) => by_letter(b, e),
-        Head::Other => Kind::Clause,
+        Head::Letter(b'p', e) => Kind::Problem(e),
+        Head::Letter(b'a', e) => Kind::Binding(Quantifier::Universal, e),
+        Head::Letter(b'e', e) => Kind::Binding(Quantifier::Existential, e),
+        Head::Letter(_, _) | Head::Other => Kind::Clause,
     }
 }
 
 // A line before the `p` line, or that line.
-fn line_first(line: &[u8], prefix: &mut [i32]) -> Outcome
-    ensures { ReadInPrefix (line_judge line.now) State.Start line.now prefix.old result prefix.new }
+fn line_first(line: &[u8], prefix: &mut [i32]) -> Result<Option<Reading>, Rule>
+    ensures { ReadInPrefix (line_judge line.now) None line.now prefix.old result prefix.new }
 {
     match kind_of(line) {
-        Kind::Skip => Outcome::Next(State::Start),
-        Kind::Problem(e) => problem_line(line, e, prefix),
-        Kind::Binding(_, _) => Outcome::Refuse(2),
-        Kind::Clause => Outcome::Refuse(2),
+        Kind::Skip => Ok(None),
+        Kind::Problem(e) => Ok(Some(problem_line(line, e, prefix)?)),
+        Kind::Binding(_, _) | Kind::Clause => Err(Rule::Malformed),
     }
 }
 
 // A line after the `p` line.
-fn line_within(line: &[u8], r: Reading, prefix: &mut [i32], matrix: &mut [i32]) -> Outcome
-    requires { Able (length line.now) (State.Within r) matrix.old }
-    ensures { ReadInBoth (line_judge line.now) (State.Within r) line.now
-        prefix.old matrix.old result prefix.new matrix.new }
+fn line_within(
+    line: &[u8],
+    r: Reading,
+    prefix: &mut [i32],
+    matrix: &mut [i32],
+) -> Result<Reading, Rule>
+    requires { Able (length line.now) (Some r) matrix.old }
+    ensures { ReadInBoth (line_judge line.now) (Some r) line.now
+        prefix.old matrix.old (going_on result) prefix.new matrix.new }
 {
     match kind_of(line) {
-        Kind::Skip => Outcome::Next(State::Within(r)),
-        Kind::Problem(_) => Outcome::Refuse(2),
-        Kind::Binding(q, e) => binding_line(line, e, q, r, prefix),
+        Kind::Skip => Ok(r),
+        Kind::Problem(_) => Err(Rule::Malformed),
+        Kind::Binding(quantifier, e) => binding_line(line, e, quantifier, r, prefix),
         Kind::Clause => clause_line(line, r, prefix, matrix),
     }
 }
 
-fn read_line(line: &[u8], s: State, prefix: &mut [i32], matrix: &mut [i32]) -> Outcome
-    requires { Able (length line.now) s matrix.old }
-    ensures { ReadInBoth (line_judge line.now) s line.now
+// Any line; before the `p` line nothing is read.
+fn read_line(
+    line: &[u8],
+    so_far: Option<Reading>,
+    prefix: &mut [i32],
+    matrix: &mut [i32],
+) -> Result<Option<Reading>, Rule>
+    requires { Able (length line.now) so_far matrix.old }
+    ensures { ReadInBoth (line_judge line.now) so_far line.now
         prefix.old matrix.old result prefix.new matrix.new }
 {
-    match s {
-        State::Start => line_first(line, prefix),
-        State::Within(r) => line_within(line, r, prefix, matrix),
-    }
-}
-
-// A refusal's number and line, or what was read.
-#[derive(Clone, Copy)]
-pub enum Answer {
-    Refused(u32, u32),
-    Done(Reading),
-}
-
-fn close(s: State) -> Answer
-    ensures { result ≡ close_of s }
-{
-    let State::Within(r) = s else {
-        return Answer::Refused(2, 0);
+    let Some(r) = so_far else {
+        return line_first(line, prefix);
     };
-    if r.clauses == r.c {
-        return Answer::Done(r);
+    Ok(Some(line_within(line, r, prefix, matrix)?))
+}
+
+// The end of the file: a formula, if there was a `p` line and as many clauses as it says.
+fn close(so_far: Option<Reading>) -> Result<Reading, Refusal>
+    ensures { result ≡ close_of so_far }
+{
+    let Some(r) = so_far else {
+        return Err(Rule::Malformed.into());
+    };
+    if r.clauses != r.c {
+        return Err(Rule::WrongClauseCount.into());
     }
-    Answer::Refused(6, 0)
+    Ok(r)
 }
 
 // The formula's lines one after the other.
-fn read_lines(formula: &[u8], prefix: &mut [i32], matrix: &mut [i32]) -> Answer
+fn read_lines(formula: &[u8], prefix: &mut [i32], matrix: &mut [i32]) -> Result<Reading, Refusal>
     requires { length formula.now ≤ 1048576 }
     ensures { Whole formula.now
         prefix.old matrix.old result prefix.new matrix.new }
 {
-    let mut s = State::Start;
-    let mut at = 0;
-    let mut n: u32 = 1;
-    loop {
-        let e = lines::line_end(formula, at);
-        match read_line(&formula[at..e], s, prefix, matrix) {
-            Outcome::Next(t) => {
-                s = t;
-            }
-            Outcome::Refuse(k) => {
-                return Answer::Refused(k, n);
-            }
-        }
-        if formula.len() <= e {
-            return close(s);
-        }
-        at = e + 1;
-        n += 1;
+    let mut so_far = None;
+    let mut number: u32 = 0;
+    for line in Lines::new(formula) {
+        number += 1;
+        so_far = match read_line(line, so_far, prefix, matrix) {
+            Ok(next) => next,
+            Err(rule) => return Err(Refusal { rule, line: number }),
+        };
     }
+    close(so_far)
 }
 
 // THE FORMULA READ INTO ITS TABLES.
-pub fn read_formula(formula: &[u8], prefix: &mut [i32], matrix: &mut [i32]) -> Answer
+pub fn read_formula(
+    formula: &[u8],
+    prefix: &mut [i32],
+    matrix: &mut [i32],
+) -> Result<Reading, Refusal>
     ensures { Answered formula.now
         prefix.old matrix.old result prefix.new matrix.new }
 {
     if tables::BYTES < formula.len() {
-        return Answer::Refused(1, 0);
+        return Err(Rule::Overlong.into());
     }
     read_lines(formula, prefix, matrix)
 }

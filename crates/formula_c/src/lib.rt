@@ -4,15 +4,16 @@
 ghost use Rattle.std.specs.Prelude.{◌≡◌};
 ghost use Rattle.formula_c.specs.Packed.{packed, Read};
 
-use formula::Answer;
+use formula::Reading;
+use rules::Refusal;
 
 // A refusal's number and line as one number; 0 for a formula that was read.
-fn pack(a: Answer) -> u64
-    ensures { result ≡ packed a }
+fn pack(answer: Result<Reading, Refusal>) -> u64
+    ensures { result ≡ packed answer }
 {
-    match a {
-        Answer::Refused(number, line) => (number as u64) * 4294967296 + (line as u64),
-        Answer::Done(_) => 0,
+    match answer {
+        Ok(_) => 0,
+        Err(refusal) => u32::from(refusal.rule) as u64 * 4294967296 + refusal.line as u64,
     }
 }
 

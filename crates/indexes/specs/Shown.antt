@@ -1,22 +1,22 @@
 -- The indexes of the clauses, in an array. Assumes nothing.
-use Rattle.std.specs.Prelude.{◌≡◌, cond, List, [], ◌∷◌, ℕ, zero, suc, ◌≤◌, eqb, leb, length, get_or, set}
+use Rattle.std.specs.Prelude.{◌≡◌, cond, List, [], ◌∷◌, ℕ, zero, suc, ◌+◌, ◌%◌, ◌≤◌, eqb, length, get_or, set, Option, Some, None, option_map}
 
--- one place further, where there is one
-abbrev pub further : ℕ → ℕ
-further zero = 0
-further (suc k) = suc (suc k)
+-- where an index stands in a list, counted from 0
+unfoldable pub place_in : List ℕ → ℕ → Option ℕ
+place_in [] i = None
+place_in (j ∷ js) i = cond (eqb i j) (Some 0) (option_map suc (place_in js i))
 
--- where an index stands in a list, counted from 1; 0 if it does not
-unfoldable pub place_in : List ℕ → ℕ → ℕ
-place_in [] i = 0
-place_in (j ∷ js) i = cond (eqb i j) 1 (further (place_in js i))
+-- a place counted from 1, or 0 for none
+abbrev pub counted : ℕ → Option ℕ
+counted zero = None
+counted (suc k) = Some k
 
 -- what the array has for an index, and the array with a place noted for it
-unfoldable pub place_at : List ℕ → ℕ → ℕ
-place_at a i = cond (leb i 65536) (get_or a i 0) 0
+unfoldable pub place_at : List ℕ → ℕ → Option ℕ
+place_at a i = counted (get_or a i 0)
 
 unfoldable pub noted : List ℕ → ℕ → ℕ → List ℕ
-noted a i k = cond (leb i 65536) (set a i k) a
+noted a i k = set a i ((k + 1) % 4294967296)
 
 -- THE INDEXES of the clauses, in their order
 pub record IndexesShown (a is : List ℕ) : Type 0 where

@@ -10,23 +10,19 @@ pub const HIGHEST: usize = 65536;
 // Place i holds the place of the clause with index i, counted from 1; 0 if no clause has it.
 pub type Indexes = [u32; 65537];
 
-// The place of the clause with index i, counted from 1; 0 if there is none.
-pub fn place_of(a: &Indexes, i: u32) -> u32
-    ensures { result ≡ place_at a.now i }
+// The place of the clause with an index, counted from 0.
+#[tactic(auto, unfolding(crate::specs::Shown::place_at))]
+pub fn place_of(indexes: &Indexes, index: u32) -> Option<usize>
+    ensures { result ≡ place_at indexes.now index }
 {
-    let k = i as usize;
-    if k <= HIGHEST {
-        return a[k];
-    }
-    0
+    let place = *indexes.get(index as usize)?;
+    (place as usize).checked_sub(1)
 }
 
-// The clause at place k, counted from 1, has index i; nothing where i is above the highest index.
-pub fn note(a: &mut Indexes, i: u32, k: u32)
-    ensures { a.new ≡ noted a.old i k }
+// The clause at a place, counted from 0, has this index; nothing where the index is above the highest.
+#[tactic(auto, unfolding(crate::specs::Shown::noted))]
+pub fn note(indexes: &mut Indexes, index: u32, place: u32)
+    ensures { indexes.new ≡ noted indexes.old index place }
 {
-    let j = i as usize;
-    if j <= HIGHEST {
-        a[j] = k;
-    }
+    cells::set_at(indexes, index as usize, place.wrapping_add(1));
 }

@@ -166,15 +166,6 @@ ranked_back Other = refl
 pub rank_back : (j k : Class) → rank j ≡ rank k → j ≡ k
 rank_back j k e = sym (ranked_back j) ∙ ap ranked e ∙ ranked_back k
 
--- the last class is the one that has no other rank
-pub rank_last : (k : Class) → (rank k ≡ 0 → ⊥) → (rank k ≡ 1 → ⊥) → (rank k ≡ 2 → ⊥) → (rank k ≡ 3 → ⊥) → (rank k ≡ 4 → ⊥) → k ≡ Other
-rank_last Blank a b c d e = absurd (a refl)
-rank_last LineEnd a b c d e = absurd (b refl)
-rank_last Digit a b c d e = absurd (c refl)
-rank_last Minus a b c d e = absurd (d refl)
-rank_last Letter a b c d e = absurd (e refl)
-rank_last Other a b c d e = refl
-
 -- THE TEST OF A CLASS: true exactly of the bytes that the class holds
 module _ (k : Class) (b : ℕ) where
   is_class : is_a k b ≡ true → class_of b ≡ k

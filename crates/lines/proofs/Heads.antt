@@ -8,13 +8,14 @@ use native.Mathlib.Omega.{arith}
 use lib.ListN.{length, take, drop, get_or, length-drop}
 use lib.Seq.{length-take-le}
 use lib.Dec.{eqb, leb}
+use lib.Pointwise.{pointwise}
 use borrow.Author.Tests.{eq-eqb, ne_eqb, le-leb, lt-leb, leb-true, leb-false, eqb-true, eqb-false}
 use Rattle.lines.specs.Bytes.{is_blank, same_bytes}
 use Rattle.lines.specs.Lines.{Token, token_of, tokens_of, read_line}
 use Rattle.lines.specs.declared.Run.TheVariants.{Word}
 use Rattle.lines.specs.declared.Head.{Head}
 use Rattle.lines.specs.Scan.{passes, run, start_at, end_at, tokens_from, head_of}
-use Rattle.lines.proofs.Here.{here, past}
+use Rattle.lines.proofs.Here.{here}
 use Rattle.lines.proofs.Runs.{run_go, none_left, skipped, starts, one_word}
 use Rattle.lines.proofs.Words.{start, ends, word_long, word_within, tokens_next, the_start, the_end}
 
@@ -59,22 +60,11 @@ module _ (bs : List ℕ) {s : ℕ} (h : s ≡ 0 + run is_blank (drop 0 bs)) wher
         ∙ ap (λ t. cond t (Head.Letter (get_or bs s 0) e) Head.Other) (ne_eqb e (s + 1) (λ y. n (omega (arith, goes)))))
 
 -- equal words
-module _ (a b : List ℕ) (i : ℕ) where
-  pub same_short : i < length a → length b ≤ i → false ≡ same_bytes (drop i a) (drop i b)
-  same_short h k = rw (here a i h, past b i k)
-
-  pub same_differ : i < length a → i < length b → (get_or a i 0 ≡ get_or b i 0 → ⊥) → false ≡ same_bytes (drop i a) (drop i b)
-  same_differ h k e = sym (ap₂ same_bytes (here a i h) (here b i k) ∙ ap (λ t. t && same_bytes (drop (i + 1) a) (drop (i + 1) b)) (ne_eqb (get_or a i 0) (get_or b i 0) e))
-
-  pub same_go : i < length a → i < length b → get_or a i 0 ≡ get_or b i 0 → same_bytes (drop (i + 1) a) (drop (i + 1) b) ≡ same_bytes (drop i a) (drop i b)
-  same_go h k e = sym (ap₂ same_bytes (here a i h) (here b i k) ∙ ap (λ t. t && same_bytes (drop (i + 1) a) (drop (i + 1) b)) (eq-eqb (get_or a i 0) (get_or b i 0) e))
-
-  pub same_end : length a ≤ i → leb (length b) i ≡ same_bytes (drop i a) (drop i b)
-  same_end h = go (leb (length b) i) refl
-    where
-      go : (t : Bool) → leb (length b) i ≡ t → t ≡ same_bytes (drop i a) (drop i b)
-      go true e = rw (past a i h, past b i (leb-true (length b) i e))
-      go false e = sym (ap₂ same_bytes (past a i h) (here b i (leb-false (length b) i e)))
+pub same_pointwise : (a b : List ℕ) → pointwise eqb a b ≡ same_bytes a b
+same_pointwise [] [] = refl
+same_pointwise [] (y ∷ ys) = refl
+same_pointwise (x ∷ xs) [] = refl
+same_pointwise (x ∷ xs) (y ∷ ys) = ap (λ t. eqb x y && t) (same_pointwise xs ys)
 
 -- what the beginning tells of the tokens
 module _ (bs : List ℕ) where

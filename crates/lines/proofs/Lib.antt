@@ -8,3 +8,4 @@ pub mod Words
 pub mod Walks
 pub mod Heads
 pub mod Parts
+pub mod LinesLeft

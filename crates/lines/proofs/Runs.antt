@@ -1,21 +1,22 @@
 -- Laws of runs: lines and words. Assumes nothing.
 use mathlib.Core.Path.{◌≡◌, refl, ap, ap₂, sym, ◌∙◌}
 use mathlib.Core.Bool.{Bool, true, false, not, cond, ◌||◌, true≢false}
-use mathlib.Core.List.{List, [], ◌∷◌}
+use mathlib.Core.List.{List, [], ◌∷◌, ◌++◌}
 use mathlib.Core.Logic.{◌⊎◌, inl, inr}
-use lib.Dec.{eqb}
-use borrow.Author.Tests.{eqb-false}
+use lib.Dec.{eqb, leb}
+use borrow.Author.Tests.{eqb-false, leb-true, leb-false}
 use Rattle.lines.specs.declared.Class.TheVariants.{LineEnd}
 use Rattle.lines.proofs.Classes.{held_not}
-use Prim.Native.Nat.{ℕ, zero, suc, ◌+◌, ◌-◌, ◌<◌, ◌≤◌}
+use Prim.Native.Nat.{ℕ, zero, suc, ◌+◌, ◌-◌, ◌<◌, ◌≤◌, max}
 use native.Mathlib.Omega.{arith}
-use lib.ListN.{length, take, drop, get_or, length-drop}
-use lib.Seq.{drop-drop, get_or-drop}
+use lib.ListN.{length, take, drop, get_or, length-drop, length-append}
+use lib.Seq.{drop-drop, drop-append_seam, get_or-drop}
 use Rattle.lines.specs.Lists.{keep, is_empty}
 use Rattle.lines.specs.Bytes.{is_line_end, is_blank}
 use Rattle.lines.specs.Lines.{split, longer, lines_of, words_of}
 use Rattle.lines.specs.declared.Run.TheVariants.{Line, Word}
 use Rattle.lines.specs.Scan.{passes, run}
+use Rattle.std.proofs.lemmas.List.{take_all}
 use Rattle.lines.proofs.Here.{here, past}
 
 module _ (p : ℕ → Bool) where
@@ -40,6 +41,15 @@ module _ (p : ℕ → Bool) where
     pub run_go : i < length bs → p (get_or bs i 0) ≡ true → run p (drop i bs) ≡ suc (run p (drop (i + 1) bs))
     unfolding run
     run_go h e = rw (here bs i h, e)
+
+-- a walk from a place on, which stands at i, passed all that is left: it ends at the end, or where it began beyond it
+pub run_whole : (p : ℕ → Bool) (bs : List ℕ) (at : ℕ) {i r : ℕ} → at + run p (drop at bs) ≡ i + run p (drop i bs) → length bs ≤ i → (at ≤ length bs → i ≤ length bs)
+    → r ≡ max at (length bs) → r ≡ at + run p (drop at bs)
+run_whole p bs at {i} {r} e l h q = go (leb (length bs) at) refl
+  where
+    go : (t : Bool) → leb (length bs) at ≡ t → r ≡ at + run p (drop at bs)
+    go true f = let k = leb-true (length bs) at f in let z = run_past p bs at k in omega arith
+    go false f = let k = leb-false (length bs) at f in let m = h (omega arith) in let z = run_past p bs i l in omega arith
 
 pub or_false : (x y : Bool) → x || y ≡ false → (x ≡ false) × (y ≡ false)
 or_false true y e = absurd (true≢false e)
@@ -106,6 +116,71 @@ module _ (p : ℕ → Bool) where
       go true l r = r (omega arith) ∙ omega arith
       go false l r = absurd (omega arith)
 
+  -- a run over all of a list
+  pub over_all : (bs : List ℕ) → Over bs 0 (length bs) → run p bs ≡ length bs
+  over_all bs o = let z = run_past p bs (0 + length bs) (omega arith) in omega arith
+
+  pub over_front : (bs : List ℕ) (n : ℕ) → Over bs 0 n → n < length bs → p (get_or bs n 0) ≡ true → Over bs 0 (n + 1)
+  over_front bs n o h e = let z : 0 + n ≡ n = omega arith in over_byte bs 0 n o (omega arith) (ap (λ m. p (get_or bs m 0)) z ∙ e)
+
+  run_append : (xs ys : List ℕ) → run p xs ≡ length xs → run p (xs ++ ys) ≡ length xs + run p ys
+  unfolding run
+  run_append [] ys e = omega arith
+  run_append (x ∷ xs) ys e = go (p x) refl e (run_append xs ys)
+    where
+      go : (t : Bool) → p x ≡ t → cond t (suc (run p xs)) 0 ≡ suc (length xs) → (run p xs ≡ length xs → run p (xs ++ ys) ≡ length xs + run p ys)
+          → cond t (suc (run p (xs ++ ys))) 0 ≡ suc (length xs) + run p ys
+      go true q e r = let z = r (omega arith) in omega arith
+      go false q e r = absurd (omega arith)
+
+  run_front : (xs ys : List ℕ) → run p xs ≤ run p (xs ++ ys)
+  unfolding run
+  run_front [] ys = omega arith
+  run_front (x ∷ xs) ys = go (p x) (run_front xs ys)
+    where
+      go : (t : Bool) → run p xs ≤ run p (xs ++ ys) → cond t (suc (run p xs)) 0 ≤ cond t (suc (run p (xs ++ ys))) 0
+      go true h = omega arith
+      go false h = omega arith
+
+  pub run_take : (n : ℕ) (bs : List ℕ) → run p (take n bs) ≤ run p bs
+  unfolding run
+  run_take zero bs = omega arith
+  run_take (suc n) [] = omega arith
+  run_take (suc n) (b ∷ bs) = go (p b) (run_take n bs)
+    where
+      go : (t : Bool) → run p (take n bs) ≤ run p bs → cond t (suc (run p (take n bs))) 0 ≤ cond t (suc (run p bs)) 0
+      go true h = omega arith
+      go false h = omega arith
+
+  pub slice_from : (bs : List ℕ) (i : ℕ) → take (length bs - i) (drop i bs) ≡ drop i bs
+  slice_from bs i = take_all (length bs - i) (drop i bs) (omega (arith, length-drop i bs))
+
+  -- the last eight bytes as a slice
+  pub over_last : (bs : List ℕ) (i : ℕ) → 8 ≤ length bs → i ≡ length bs - 8 → run p (take (length bs - i) (drop i bs)) ≡ length (take (length bs - i) (drop i bs)) → Over bs i 8
+  over_last bs i l h e =
+      let q : run p (drop i bs) ≡ length (drop i bs) = rw (slice_from bs i) at e in
+      let z = run_past p bs (i + 8) (omega arith) in
+      omega (arith, length-drop i bs)
+
+  -- a block of eight bytes from i on, and the bytes after it
+  module _ (bs : List ℕ) (i : ℕ) (xs ys : List ℕ) (d : drop i bs ≡ xs ++ ys) (n : length xs ≡ 8) where
+    pub block_next : (ys ≡ drop (i + 8) bs) × (i + 8 ≤ length bs)
+    block_next =
+        let e : drop 8 (xs ++ ys) ≡ ys = ap (λ m. drop m (xs ++ ys)) (sym n) ∙ drop-append_seam xs ys in
+        let l = ap length d ∙ length-append xs ys in
+        (sym e ∙ ap (drop 8) (sym d) ∙ drop-drop 8 i bs, omega (arith, l, length-drop i bs))
+
+    pub block_over : run p xs ≡ length xs → run p (drop i bs) ≡ 8 + run p (drop (i + 8) bs)
+    block_over e = ap (run p) d ∙ run_append xs ys e ∙ ap₂ (λ m l. m + run p l) n block_next.0
+
+    pub block_within : (k : ℕ) → k ≤ run p xs → run p (drop i bs) ≡ k + run p (drop (i + k) bs)
+    block_within k h =
+        let f = run_front xs ys in
+        let q = ap (run p) d in
+        let r = run_within (drop i bs) k (omega arith) in
+        let z = ap (run p) (drop-drop k i bs) in
+        omega arith
+
   -- the last eight bytes belong to the run, and i is among them
   pub to_end : (bs : List ℕ) (i : ℕ) → 8 ≤ length bs → length bs - 8 ≤ i → i ≤ length bs → Over bs (length bs - 8) 8 → i + run p (drop i bs) ≡ length bs
   to_end bs i l h k o =
@@ -146,6 +221,10 @@ module _ (bs : List ℕ) (i : ℕ) where
             goes_on = inr (z ∙ m.0, omega (arith, m.0, m.1));
             over = rw s at (over_byte (passes Line) bs i n k.over (omega (arith, m.1)) b);
           }
+
+-- the same from the front
+pub counted_front : (bs : List ℕ) {n more j next : ℕ} → Counted bs 0 n more j → j < length bs → next ≡ cond (is_line_end (get_or bs j 0)) 0 more → Counted bs 0 (n + next) next (j + 1)
+counted_front bs {n} {more} {j} k h q = let z : j ≡ 0 + j = omega arith in counted_on bs 0 k (omega arith) (q ∙ ap (λ m. cond (is_line_end (get_or bs m 0)) 0 more) z)
 
 -- WORDS
 front : ℕ → List (List ℕ) → List (List ℕ)

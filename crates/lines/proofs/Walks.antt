@@ -8,14 +8,12 @@ use native.Mathlib.Omega.{arith}
 use lib.ListN.{length, take, drop, get_or, get_or-eq_default}
 use lib.Dec.{eqb, leb, ltb}
 use borrow.Author.Tests.{eqb-true, eqb-false, ne_eqb, leb-true, leb-false, ltb-true}
+use Rattle.std.specs.Prelude.{Option, None, Some}
 use Rattle.lines.specs.Bytes.{class_of, rank, is_blank, is_digit, is_minus}
 use Rattle.lines.specs.declared.Class.TheVariants.{Minus}
 use Rattle.lines.specs.declared.Run.TheVariants.{Word}
-use Rattle.lines.specs.declared.Digits.{Digits}
-use Rattle.lines.specs.declared.Plain.{Plain}
-use Rattle.lines.specs.declared.Literal.{Literal}
 use Rattle.lines.specs.Scan.{cap, passes, run, digits_in, number_in, start_at, literal_at}
-use Rattle.lines.proofs.Here.{here}
+use Rattle.lines.proofs.Here.{here, pair_of}
 use Rattle.lines.proofs.Classes.{and_true, held_not}
 use Rattle.lines.proofs.Runs.{run_past, run_stop, run_go, starts}
 use Rattle.lines.proofs.Numbers.{digit_below, on, on_digit, on_none, zero_alone, first_on, number_digits, number_signed, digits_capped}
@@ -30,20 +28,20 @@ digit_passes b e = ap (λ n. not (eqb n 0)) (eqb-true (rank (class_of b)) 2 e)
 
 -- the word from a place on is the number v, and e is the place after it
 abbrev pub NumberAt : List ℕ → ℕ → ℕ → ℕ → Type 0
-NumberAt bs from v e = (e ≡ from + run (passes Word) (drop from bs)) × (digits_in (take (e - from) (drop from bs)) ≡ Digits.Value v)
+NumberAt bs from v e = (e ≡ from + run (passes Word) (drop from bs)) × (digits_in (take (e - from) (drop from bs)) ≡ Some v)
 
 -- what the reader of a number tells
-abbrev pub Tells : List ℕ → ℕ → Plain → Type 0
-Tells bs from r = (v e : ℕ) → r ≡ Plain.Of v e → NumberAt bs from v e
+abbrev pub Tells : List ℕ → ℕ → Option (ℕ × ℕ) → Type 0
+Tells bs from r = (v e : ℕ) → r ≡ Some (v, e) → NumberAt bs from v e
 
-pub tells_nothing : (bs : List ℕ) (from : ℕ) → Tells bs from Plain.Unread
+pub tells_nothing : (bs : List ℕ) (from : ℕ) → Tells bs from None
 tells_nothing bs from v e q = absurd (let z : ◌≡◌ {A = ℕ} 0 1 = cc in omega arith)
 
 -- what the reader of a plain token tells
-abbrev pub Says : List ℕ → ℕ → Plain → Type 0
-Says bs at r = (x e : ℕ) → r ≡ Plain.Of x e → literal_at bs at ≡ Literal.Of x e
+abbrev pub Says : List ℕ → ℕ → Option (ℕ × ℕ) → Type 0
+Says bs at r = (x e : ℕ) → r ≡ Some (x, e) → literal_at bs at ≡ Some (x, e)
 
-pub says_nothing : (bs : List ℕ) (at : ℕ) → Says bs at Plain.Unread
+pub says_nothing : (bs : List ℕ) (at : ℕ) → Says bs at None
 says_nothing bs at x e q = absurd (let z : ◌≡◌ {A = ℕ} 0 1 = cc in omega arith)
 
 -- another digit can follow
@@ -110,26 +108,26 @@ module _ (bs : List ℕ) where
           digits = λ _. sym (on_digit v (get_or bs i 0) (word_from bs (i + 1)) e f) ∙ sym (ap (on v) (word_digit i h e)) ∙ k.digits (inl g.0);
         }
 
-    tells : {v i : ℕ} → i ≡ from + run (passes Word) (drop from bs) → digits_in (word_from bs from) ≡ Digits.Value v → Tells bs from (Plain.Of v i)
+    tells : {v i : ℕ} → i ≡ from + run (passes Word) (drop from bs) → digits_in (word_from bs from) ≡ Some v → Tells bs from (Some (v, i))
     unfolding word_from
     tells {v} {i} k d w e q =
         let x : e - from ≡ run (passes Word) (drop from bs) = omega (arith, the_place) in
-        (sym the_place ∙ k, ap (λ n. digits_in (take n (drop from bs))) x ∙ d ∙ ap Digits.Value the_value)
+        (sym the_place ∙ k, ap (λ n. digits_in (take n (drop from bs))) x ∙ d ∙ ap Some the_value)
       where
         the_place : i ≡ e
-        the_place = cc
+        the_place = (pair_of q).1
 
         the_value : v ≡ w
-        the_value = cc
+        the_value = (pair_of q).0
 
-    walk_ends : {v i : ℕ} → Walked v i → run (passes Word) (drop i bs) ≡ 0 → Tells bs from (Plain.Of v i)
+    walk_ends : {v i : ℕ} → Walked v i → run (passes Word) (drop i bs) ≡ 0 → Tells bs from (Some (v, i))
     walk_ends {v} {i} k r =
         tells (omega (arith, k.ends)) (sym (k.digits (inr r)) ∙ ap (on v) (word_none i r) ∙ sym (on_none v (omega (arith, k.small))))
 
-    pub walk_blank : {v i : ℕ} → Walked v i → i < length bs → is_blank (get_or bs i 0) ≡ true → Tells bs from (Plain.Of v i)
+    pub walk_blank : {v i : ℕ} → Walked v i → i < length bs → is_blank (get_or bs i 0) ≡ true → Tells bs from (Some (v, i))
     walk_blank {v} {i} k h e = walk_ends k (run_stop (passes Word) bs i h (ap not e))
 
-    pub walk_past : {v i : ℕ} → Walked v i → length bs ≤ i → Tells bs from (Plain.Of v i)
+    pub walk_past : {v i : ℕ} → Walked v i → length bs ≤ i → Tells bs from (Some (v, i))
     walk_past {v} {i} k h = walk_ends k (run_past (passes Word) bs i h)
 
   -- a number is no empty word
@@ -137,7 +135,7 @@ module _ (bs : List ℕ) where
   unfolding digits_in
   number_long from {v} {e} k z =
       let x : e - from ≡ 0 = omega (arith, k.0) in
-      let q : Digits.Bad ≡ Digits.Value v = sym (ap (λ n. digits_in (take n (drop from bs))) x) ∙ k.1 in
+      let q : None ≡ Some v = sym (ap (λ n. digits_in (take n (drop from bs))) x) ∙ k.1 in
       let z : ◌≡◌ {A = ℕ} 0 1 = cc in omega arith
 
   number_within : (from : ℕ) {v e : ℕ} → NumberAt bs from v e → from < length bs
@@ -194,10 +192,10 @@ module _ (bs : List ℕ) where
 
   -- the next token, s is its start and g its sign
   module _ (at : ℕ) {s : ℕ} (h : s ≡ at + run is_blank (drop at bs)) (l : s < length bs) where
-    literal_walked : {g v e : ℕ} → g ≡ cond (is_minus (get_or bs s 0)) 1 0 → NumberAt bs (s + g) v e → g ≤ v → Literal.Of (2 * v + g) e ≡ literal_at bs at
+    literal_walked : {g v e : ℕ} → g ≡ cond (is_minus (get_or bs s 0)) 1 0 → NumberAt bs (s + g) v e → g ≤ v → Some (2 * v + g, e) ≡ literal_at bs at
     literal_walked {g} {v} {e} m k z = go (is_minus (get_or bs s 0)) refl m
       where
-        go : (t : Bool) → is_minus (get_or bs s 0) ≡ t → g ≡ cond t 1 0 → Literal.Of (2 * v + g) e ≡ literal_at bs at
+        go : (t : Bool) → is_minus (get_or bs s 0) ≡ t → g ≡ cond t 1 0 → Some (2 * v + g, e) ≡ literal_at bs at
         go true q m =
             let p : s + g ≡ s + 1 = omega arith in
             let n : NumberAt bs (s + 1) v e = rw p at k in
@@ -205,21 +203,19 @@ module _ (bs : List ℕ) where
             let u : e ≡ s + run (passes Word) (drop s bs) = omega (arith, n.0) in
             let x : e - s ≡ suc (e - (s + 1)) = omega (arith, n.0) in
             let w : take (e - s) (drop s bs) ≡ get_or bs s 0 ∷ take (e - (s + 1)) (drop (s + 1) bs) = ap₂ take x (here bs s l) in
-            ap (λ i. Literal.Of (2 * v + i) e) m
+            ap (λ i. Some (2 * v + i, e)) m
             ∙ literal_read bs at h u (number_signed (get_or bs s 0) (take (e - (s + 1)) (drop (s + 1) bs)) q n.1 (λ y. omega arith) ∙ sym (ap number_in w)) refl
         go false q m =
             let p : s + g ≡ s = omega arith in
             let n : NumberAt bs s v e = rw p at k in
             let x : 2 * v + g ≡ 2 * v = omega arith in
-            ap (λ i. Literal.Of i e) x ∙ literal_read bs at h n.0 (number_digits (take (e - s) (drop s bs)) refl n.1) refl
+            ap (λ i. Some (i, e)) x ∙ literal_read bs at h n.0 (number_digits (take (e - s) (drop s bs)) refl n.1) refl
 
-  pub plain_walked_from : (at : ℕ) {s g v e : ℕ} → s ≡ at + run is_blank (drop at bs) → g ≡ cond (is_minus (get_or bs s 0)) 1 0 → NumberAt bs (s + g) v e → g ≤ v → Says bs at (Plain.Of (2 * v + g) e)
+  pub plain_walked_from : (at : ℕ) {s g v e : ℕ} → s ≡ at + run is_blank (drop at bs) → g ≡ cond (is_minus (get_or bs s 0)) 1 0 → NumberAt bs (s + g) v e → g ≤ v → Says bs at (Some (2 * v + g, e))
   plain_walked_from at {s} {g} {v} {e} h m k z x y q =
-      let c : 2 * v + g ≡ x = cc in
-      let d : e ≡ y = cc in
-      sym (literal_walked at h (omega (arith, number_within (s + g) k)) m k z) ∙ ap₂ Literal.Of c d
+      sym (literal_walked at h (omega (arith, number_within (s + g) k)) m k z) ∙ q
 
-  pub plain_walked : (at s : ℕ) {g v e : ℕ} → start_at bs s ≡ start_at bs at → g ≡ cond (is_minus (get_or bs s 0)) 1 0 → NumberAt bs (s + g) v e → g ≤ v → Says bs at (Plain.Of (2 * v + g) e)
+  pub plain_walked : (at s : ℕ) {g v e : ℕ} → start_at bs s ≡ start_at bs at → g ≡ cond (is_minus (get_or bs s 0)) 1 0 → NumberAt bs (s + g) v e → g ≤ v → Says bs at (Some (2 * v + g, e))
   unfolding start_at
   plain_walked at s {g} {v} {e} a m k =
       let b = here_starts s m k in

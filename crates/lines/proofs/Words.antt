@@ -8,24 +8,22 @@ use native.Mathlib.Omega.{arith}
 use lib.ListN.{length, take, drop, length-drop}
 use lib.Dec.{eqb, leb, ltb}
 use borrow.Author.Tests.{lt-ltb, le-ltb, leb-true, leb-false, ltb-true, ltb-false, eqb-true, eqb-false, not-true}
+use Rattle.std.specs.Prelude.{Option, None, Some}
 use Rattle.lines.specs.Lists.{is_empty}
 use Rattle.lines.specs.Bytes.{is_blank, is_minus, same_bytes}
 use Rattle.lines.specs.Lines.{is_number, value, signed, words_of, Token, number, minus, word, token_of}
 use Rattle.lines.specs.declared.Run.TheVariants.{Word}
-use Rattle.lines.specs.declared.Number.{Number}
-use Rattle.lines.specs.declared.Literal.{Literal}
-use Rattle.lines.specs.declared.Found.{Found}
 use Rattle.lines.specs.Scan.{cap, passes, run, shown, number_in, start_at, end_at, word_at, tokens_from, ended_at, literal_of, literal_at, word_is}
-use Rattle.lines.proofs.Here.{past}
+use Rattle.lines.proofs.Here.{past, pair_of}
 use Rattle.lines.proofs.Runs.{run_le, run_go, none_left, skipped, starts, one_word}
 
 -- what a token is, by what it shows
-shown_literal : (t : Token) (e x : ℕ) → shown t ≡ Number.Of x → literal_of t e ≡ Literal.Of x e
-shown_literal (number n) e x p = let q : 2 * min cap n ≡ x = cc in ap (λ y. Literal.Of y e) q
-shown_literal (minus n) e x p = let q : 2 * min cap n + 1 ≡ x = cc in ap (λ y. Literal.Of y e) q
+shown_literal : (t : Token) (e x : ℕ) → shown t ≡ Some x → literal_of t e ≡ Some (x, e)
+shown_literal (number n) e x p = let q : 2 * min cap n ≡ x = cc in ap (λ y. Some (y, e)) q
+shown_literal (minus n) e x p = let q : 2 * min cap n + 1 ≡ x = cc in ap (λ y. Some (y, e)) q
 shown_literal (word w) e x p = absurd (let z : ◌≡◌ {A = ℕ} 0 1 = cc in omega arith)
 
-bad_literal : (t : Token) (e : ℕ) → shown t ≡ Number.Bad → literal_of t e ≡ Literal.Bad
+bad_literal : (t : Token) (e : ℕ) → shown t ≡ None → literal_of t e ≡ None
 bad_literal (number n) e p = absurd (let z : ◌≡◌ {A = ℕ} 0 1 = cc in omega arith)
 bad_literal (minus n) e p = absurd (let z : ◌≡◌ {A = ℕ} 0 1 = cc in omega arith)
 bad_literal (word w) e p = refl
@@ -43,7 +41,7 @@ module _ (bs : List ℕ) (at : ℕ) {s : ℕ} (h : s ≡ at + run is_blank (drop
   unfolding tokens_from
   tokens_end l = ap (map token_of) (none_left bs at h l)
 
-  pub literal_none : length bs ≤ s → Literal.Bad ≡ literal_at bs at
+  pub literal_none : length bs ≤ s → None ≡ literal_at bs at
   unfolding literal_at
   literal_none l = sym (ap (λ w. literal_of (token_of w) (end_at bs at)) (no_word l))
 
@@ -69,7 +67,7 @@ module _ (bs : List ℕ) (at : ℕ) {s : ℕ} (h : s ≡ at + run is_blank (drop
         ap (map token_of) (skipped bs at h ∙ one_word bs at h l)
         ∙ ap₂ (λ x y. token_of (take x (drop s bs)) ∷ map token_of (words_of (drop y bs))) q (sym k)
 
-    module _ {n : Number} (f : n ≡ number_in (take (e - s) (drop s bs))) where
+    module _ {n : Option ℕ} (f : n ≡ number_in (take (e - s) (drop s bs))) where
       is_shown : n ≡ shown (token_of (take (e - s) (drop s bs)))
       unfolding number_in
       is_shown = f
@@ -78,27 +76,27 @@ module _ (bs : List ℕ) (at : ℕ) {s : ℕ} (h : s ≡ at + run is_blank (drop
       unfolding literal_at
       literal_is = ap₂ (λ w n. literal_of (token_of w) n) the_word_lem ends
 
-      pub literal_read : {x : ℕ} → n ≡ Number.Of x → Literal.Of x e ≡ literal_at bs at
+      pub literal_read : {x : ℕ} → n ≡ Some x → Some (x, e) ≡ literal_at bs at
       literal_read {x} g = sym (literal_is ∙ shown_literal (token_of (take (e - s) (drop s bs))) e x (sym is_shown ∙ g))
 
-      pub literal_other : n ≡ Number.Bad → Literal.Bad ≡ literal_at bs at
+      pub literal_other : n ≡ None → None ≡ literal_at bs at
       literal_other g = sym (literal_is ∙ bad_literal (token_of (take (e - s) (drop s bs))) e (sym is_shown ∙ g))
 
-    pub word_same : {r : Bool} (w : List ℕ) → s < length bs → r ≡ same_bytes (take (e - s) (drop s bs)) w → r ≡ true → Found.After e ≡ word_is bs at w
+    pub word_same : {r : Bool} (w : List ℕ) → s < length bs → r ≡ same_bytes (take (e - s) (drop s bs)) w → r ≡ true → Some e ≡ word_is bs at w
     unfolding word_is
     word_same w l f t =
-        sym (ap₂ (λ x y. cond (x && y) (Found.After (end_at bs at)) Found.Nothing) (ap (λ n. ltb n (length bs)) start ∙ lt-ltb s (length bs) l)
-        (ap (λ x. same_bytes x w) the_word_lem ∙ sym f ∙ t) ∙ ap Found.After ends)
+        sym (ap₂ (λ x y. cond (x && y) (Some (end_at bs at)) None) (ap (λ n. ltb n (length bs)) start ∙ lt-ltb s (length bs) l)
+        (ap (λ x. same_bytes x w) the_word_lem ∙ sym f ∙ t) ∙ ap Some ends)
 
-    pub word_other : {r : Bool} (w : List ℕ) → s < length bs → r ≡ same_bytes (take (e - s) (drop s bs)) w → r ≡ false → Found.Nothing ≡ word_is bs at w
+    pub word_other : {r : Bool} (w : List ℕ) → s < length bs → r ≡ same_bytes (take (e - s) (drop s bs)) w → r ≡ false → None ≡ word_is bs at w
     unfolding word_is
     word_other w l f t =
-        sym (ap₂ (λ x y. cond (x && y) (Found.After (end_at bs at)) Found.Nothing) (ap (λ n. ltb n (length bs)) start ∙ lt-ltb s (length bs) l)
+        sym (ap₂ (λ x y. cond (x && y) (Some (end_at bs at)) None) (ap (λ n. ltb n (length bs)) start ∙ lt-ltb s (length bs) l)
         (ap (λ x. same_bytes x w) the_word_lem ∙ sym f ∙ t))
 
-  pub word_none : (w : List ℕ) → length bs ≤ s → Found.Nothing ≡ word_is bs at w
+  pub word_none : (w : List ℕ) → length bs ≤ s → None ≡ word_is bs at w
   unfolding word_is
-  word_none w l = sym (ap (λ x. cond (x && same_bytes (word_at bs at) w) (Found.After (end_at bs at)) Found.Nothing) (ap (λ n. ltb n (length bs)) start ∙ le-ltb s (length bs) l))
+  word_none w l = sym (ap (λ x. cond (x && same_bytes (word_at bs at) w) (Some (end_at bs at)) None) (ap (λ n. ltb n (length bs)) start ∙ le-ltb s (length bs) l))
 
   pub ended_is : leb (length bs) s ≡ ended_at bs at
   unfolding ended_at
@@ -150,9 +148,9 @@ never_zero w n e z = go w (past_number (is_number w) e)
     go [] p = let z : ◌≡◌ {A = ℕ} 0 1 = cc in omega arith
     go (b ∷ bs) p = test (value 0 bs) (b ∷ bs) (is_minus b && is_number bs) (is_minus b && is_number bs && not (eqb (value 0 bs) 0)) refl p
 
-literal_code : (t : Token) (x e y : ℕ) → ((n : ℕ) → t ≡ minus n → n ≡ 0 → ⊥) → literal_of t e ≡ Literal.Of x y → Coded t x × (e ≡ y)
-literal_code (number n) x e y f p = (cc, cc)
-literal_code (minus n) x e y f p = ((cc, f n refl), cc)
+literal_code : (t : Token) (x e y : ℕ) → ((n : ℕ) → t ≡ minus n → n ≡ 0 → ⊥) → literal_of t e ≡ Some (x, y) → Coded t x × (e ≡ y)
+literal_code (number n) x e y f p = let q = pair_of p in (sym q.0, q.1)
+literal_code (minus n) x e y f p = let q = pair_of p in ((sym q.0, f n refl), q.1)
 literal_code (word w) x e y f p = absurd (let z : ◌≡◌ {A = ℕ} 0 1 = cc in omega arith)
 
 module _ (bs : List ℕ) (at : ℕ) where
@@ -168,7 +166,7 @@ module _ (bs : List ℕ) (at : ℕ) where
   unfolding end_at
   the_end = refl
 
-  pub literal_told : {x e : ℕ} → literal_at bs at ≡ Literal.Of x e → Told bs at x e
+  pub literal_told : {x e : ℕ} → literal_at bs at ≡ Some (x, e) → Told bs at x e
   unfolding literal_at
   literal_told {x} {e} p = go (leb (length bs) (start_at bs at)) refl
     where
@@ -187,11 +185,11 @@ module _ (bs : List ℕ) (at : ℕ) where
             within = omega (arith, k.1);
           }
 
-  pub literal_lost : literal_at bs at ≡ Literal.Bad → (tokens_from bs at ≡ []) ⊎ ((w : List ℕ) × (ts : List Token) × (tokens_from bs at ≡ word w ∷ ts))
+  pub literal_lost : literal_at bs at ≡ None → (tokens_from bs at ≡ []) ⊎ ((w : List ℕ) × (ts : List Token) × (tokens_from bs at ≡ word w ∷ ts))
   unfolding literal_at
   literal_lost p = go (leb (length bs) (start_at bs at)) refl
     where
-      bad : (t : Token) → literal_of t (end_at bs at) ≡ Literal.Bad → (w : List ℕ) × (t ≡ word w)
+      bad : (t : Token) → literal_of t (end_at bs at) ≡ None → (w : List ℕ) × (t ≡ word w)
       bad (number n) e = absurd (let z : ◌≡◌ {A = ℕ} 0 1 = cc in omega arith)
       bad (minus n) e = absurd (let z : ◌≡◌ {A = ℕ} 0 1 = cc in omega arith)
       bad (word w) e = (w, refl)
@@ -208,11 +206,11 @@ module _ (bs : List ℕ) (at : ℕ) where
           )
 
   -- a word that was found
-  pub word_found : (w : List ℕ) {e : ℕ} → word_is bs at w ≡ Found.After e → (tokens_from bs at ≡ token_of w ∷ tokens_from bs e) × (e ≤ length bs)
+  pub word_found : (w : List ℕ) {e : ℕ} → word_is bs at w ≡ Some e → (tokens_from bs at ≡ token_of w ∷ tokens_from bs e) × (e ≤ length bs)
   unfolding word_is
   word_found w {e} p = go (ltb (start_at bs at) (length bs)) refl (same_bytes (word_at bs at) w) refl p
     where
-      go : (t : Bool) → ltb (start_at bs at) (length bs) ≡ t → (u : Bool) → same_bytes (word_at bs at) w ≡ u → cond (t && u) (Found.After (end_at bs at)) Found.Nothing ≡ Found.After e
+      go : (t : Bool) → ltb (start_at bs at) (length bs) ≡ t → (u : Bool) → same_bytes (word_at bs at) w ≡ u → cond (t && u) (Some (end_at bs at)) None ≡ Some e
           → (tokens_from bs at ≡ token_of w ∷ tokens_from bs e) × (e ≤ length bs)
       go false l u f q = absurd (let z : ◌≡◌ {A = ℕ} 0 1 = cc in omega arith)
       go true l false f q = absurd (let z : ◌≡◌ {A = ℕ} 0 1 = cc in omega arith)
@@ -222,11 +220,11 @@ module _ (bs : List ℕ) (at : ℕ) where
           let v = word_within bs at the_start the_end s in
           (tokens_next bs at the_start the_end s ∙ ap₂ (λ x y. token_of x ∷ tokens_from bs y) (sym (the_word_lem bs at the_start the_end) ∙ same_bytes_lem (word_at bs at) w f) k, omega arith)
 
-  pub word_missed : (w : List ℕ) → word_is bs at w ≡ Found.Nothing → (tokens_from bs at ≡ []) ⊎ ((v : List ℕ) × (ts : List Token) × (tokens_from bs at ≡ token_of v ∷ ts) × (same_bytes v w ≡ false))
+  pub word_missed : (w : List ℕ) → word_is bs at w ≡ None → (tokens_from bs at ≡ []) ⊎ ((v : List ℕ) × (ts : List Token) × (tokens_from bs at ≡ token_of v ∷ ts) × (same_bytes v w ≡ false))
   unfolding word_is
   word_missed w p = go (ltb (start_at bs at) (length bs)) refl (same_bytes (word_at bs at) w) refl p
     where
-      go : (t : Bool) → ltb (start_at bs at) (length bs) ≡ t → (u : Bool) → same_bytes (word_at bs at) w ≡ u → cond (t && u) (Found.After (end_at bs at)) Found.Nothing ≡ Found.Nothing
+      go : (t : Bool) → ltb (start_at bs at) (length bs) ≡ t → (u : Bool) → same_bytes (word_at bs at) w ≡ u → cond (t && u) (Some (end_at bs at)) None ≡ None
           → (tokens_from bs at ≡ []) ⊎ ((v : List ℕ) × (ts : List Token) × (tokens_from bs at ≡ token_of v ∷ ts) × (same_bytes v w ≡ false))
       go false l u f q = inl (tokens_end bs at the_start (ltb-false (start_at bs at) (length bs) l))
       go true l false f q =

@@ -25,13 +25,13 @@ rank Minus = 3
 rank Letter = 4
 rank Other = 5
 
--- "a constant table of 256 classes, with its rule proved once over all entries": entry b is the rank of the class of byte b
-unfoldable pub Ranked : List ℕ → Type 0
-Ranked t = (b : ℕ) → b < 256 → get_or t b 0 ≡ rank (class_of b)
+-- "a constant table of 256 classes, with its rule proved once over all entries": entry b is the class of byte b
+unfoldable pub Ranked : List Class → Type 0
+Ranked t = (b : ℕ) → b < 256 → get_or t b Blank ≡ class_of b
 
--- whether b is of the class with rank k, as the entries from `low` to before `high` tell it
-unfoldable pub among_entries : ℕ → ℕ → ℕ → ℕ → Bool
-among_entries k low high b = leb low b && (ltb b high && eqb (rank (class_of b)) k)
+-- whether b is of this class, as the entries from `low` to before `high` tell it
+unfoldable pub among_entries : Class → ℕ → ℕ → ℕ → Bool
+among_entries k low high b = leb low b && (ltb b high && eqb (rank (class_of b)) (rank k))
 
 abbrev pub is_a : Class → ℕ → Bool
 is_a k b = eqb (rank (class_of b)) (rank k)

@@ -4,3 +4,5 @@ pub mod Bytes
 pub mod Lines
 pub mod Scan
 pub mod Parts
+pub mod Each
+pub mod Literals

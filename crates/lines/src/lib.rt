@@ -1,21 +1,20 @@
 // Bytes, lines, tokens and numbers of a file; the call for a line's bytes.
 #![tactic(auto)]
 
-ghost use Rattle.std.specs.Prelude.{◌≡◌, true, false, cond, ℕ, ◌+◌, ◌*◌, ◌-◌, ◌<◌, ◌≤◌, min, eqb, length, take, drop, get_or};
-ghost use Rattle.lines.specs.declared.Digits.{Digits};
-ghost use Rattle.lines.specs.declared.Literal.{Literal};
-ghost use Rattle.lines.specs.declared.Plain.{Plain};
+ghost use Rattle.std.specs.Prelude.{Some, ◌≡◌, true, false, cond, ℕ, ◌+◌, ◌*◌, ◌-◌, ◌<◌, ◌≤◌, min, eqb, length, take, drop, get_or};
 ghost use Rattle.lines.specs.declared.Run.TheVariants.{Line, Blanks, Word};
 ghost use Rattle.lines.specs.Bytes.{class_of, among_entries, is_blank, is_line_end, is_digit, is_minus, same_bytes};
 ghost use Rattle.lines.specs.Scan.{passes, run, digits_in, number_in, literal_at, ended_at, word_is, head_of, cap};
+ghost use Rattle.lines.specs.Literals.{literals_line, literals_at, GivesLiteral, bytes_left};
 ghost use Rattle.lines.specs.Parts.{line_start, file_of, LinePart};
 
+mod each;
 mod table;
 
-use crate::table::{BLANK, DIGIT, LETTER, LINE_END, MINUS};
+pub use each::Lines;
 
 // The classes of bytes.
-#[derive(Clone, Copy)]
+#[derive(Clone, Copy, PartialEq, Eq)]
 pub enum Class {
     Blank,
     LineEnd,
@@ -29,30 +28,20 @@ pub enum Class {
 pub fn class_of(b: u8) -> Class
     ensures { result ≡ class_of b }
 {
-    let ranks = table::ranks();
-    let r = ranks[b as usize];
-    match r {
-        BLANK => Class::Blank,
-        LINE_END => Class::LineEnd,
-        DIGIT => Class::Digit,
-        MINUS => Class::Minus,
-        LETTER => Class::Letter,
-        _ => Class::Other,
-    }
+    let classes = table::classes();
+    classes[b as usize]
 }
 
-// Whether a byte is of the class with this rank, looked up among the entries from `low` to before `high`. In the four tests below these two are
+// Whether a byte is of this class, looked up among the entries from `low` to before `high`. In the four tests below these two are
 // numbers: there the compiler reads the entries itself, and keeps a comparison with the bytes of this class.
-fn among(k: u8, low: usize, high: usize, b: u8) -> bool
+fn among(class: Class, low: usize, high: usize, b: u8) -> bool
     requires { (low ≤ high) × (high ≤ 256) }
-    ensures { result ≡ among_entries k low high b }
+    ensures { result ≡ among_entries class low high b }
 {
-    let ranks = table::ranks();
+    let classes = table::classes();
     let mut found = false;
-    let mut i = low;
-    while i < high {
-        found = found | ((b as usize == i) & (ranks[i] == k));
-        i += 1;
+    for i in low..high {
+        found = found | ((b as usize == i) & (classes[i] == class));
     }
     found
 }
@@ -61,25 +50,25 @@ fn among(k: u8, low: usize, high: usize, b: u8) -> bool
 fn is_blank(b: u8) -> bool
     ensures { result ≡ is_blank b }
 {
-    among(BLANK, 0, 33, b)
+    among(Class::Blank, 0, 33, b)
 }
 
 fn is_line_end(b: u8) -> bool
     ensures { result ≡ is_line_end b }
 {
-    among(LINE_END, 10, 11, b)
+    among(Class::LineEnd, 10, 11, b)
 }
 
 fn is_digit(b: u8) -> bool
     ensures { result ≡ is_digit b }
 {
-    among(DIGIT, 48, 58, b)
+    among(Class::Digit, 48, 58, b)
 }
 
 fn is_minus(b: u8) -> bool
     ensures { result ≡ is_minus b }
 {
-    among(MINUS, 45, 46, b)
+    among(Class::Minus, 45, 46, b)
 }
 
 // What a run of bytes is made of: all but byte 10, blanks, all but blanks.
@@ -104,40 +93,33 @@ fn belongs(k: Run, b: u8) -> bool
 pub fn past(s: &[u8], at: usize, k: Run) -> usize
     ensures { result ≡ at + run (passes k) (drop at s.now) }
 {
-    let mut i = at;
-    while i < s.len() {
+    for i in at..s.len() {
         if !belongs(k, s[i]) {
             return i;
         }
-        i += 1;
     }
-    i
+    at.max(s.len())
 }
 
-// Whether the eight bytes from a place on are blanks.
-fn eight_blanks(s: &[u8], i: usize) -> bool
-    requires { i + 8 ≤ length s.now }
-    ensures { result ≡ true → run (passes Blanks) (drop i s.now) ≡ 8 + run (passes Blanks) (drop (i + 8) s.now) }
+// Whether all bytes are blanks; no branch depends on one that is not.
+fn all_blank(block: &[u8]) -> bool
+    ensures { result ≡ true → run (passes Blanks) block.now ≡ length block.now }
 {
     let mut all = true;
-    let mut j = 0;
-    while j < 8 {
-        all = all & is_blank(s[i + j]);
-        j += 1;
+    for b in block {
+        all = all & is_blank(*b);
     }
     all
 }
 
 // A place up to which there are blanks for sure, eight at a time.
 fn past_eights(s: &[u8], at: usize) -> usize
+    requires { at ≤ length s.now }
     ensures { at + run (passes Blanks) (drop at s.now) ≡ result + run (passes Blanks) (drop result s.now) }
 {
     let mut i = at;
-    while i < s.len() {
-        if s.len() - i < 8 {
-            return i;
-        }
-        if !eight_blanks(s, i) {
+    for block in s[at..].chunks_exact(8) {
+        if !all_blank(block) {
             return i;
         }
         i += 8;
@@ -159,7 +141,7 @@ fn blank_to_end(s: &[u8], i: usize) -> bool
     if i < n - 8 {
         return false;
     }
-    eight_blanks(s, n - 8)
+    all_blank(&s[n - 8..])
 }
 
 // The place after the blanks from a place on, as `past` has it.
@@ -178,16 +160,13 @@ fn past_blanks(s: &[u8], at: usize) -> usize
     at
 }
 
-// Whether one of the eight bytes from a place on ends a line.
-fn ends_within(s: &[u8], i: usize) -> bool
-    requires { i + 8 ≤ length s.now }
-    ensures { result ≡ false → run (passes Line) (drop i s.now) ≡ 8 + run (passes Line) (drop (i + 8) s.now) }
+// Whether one of the bytes ends a line; no branch depends on which.
+fn ends_within(block: &[u8]) -> bool
+    ensures { result ≡ false → run (passes Line) block.now ≡ length block.now }
 {
     let mut found = false;
-    let mut j = 0;
-    while j < 8 {
-        found = found | is_line_end(s[i + j]);
-        j += 1;
+    for b in block {
+        found = found | is_line_end(*b);
     }
     found
 }
@@ -201,18 +180,16 @@ fn unless_end(n: usize, b: u8) -> usize
     n
 }
 
-// How many of the seven bytes from a place on stand before the line's end; no branch depends on where it is.
-fn before_end(s: &[u8], i: usize) -> usize
-    requires { i + 7 ≤ length s.now }
-    ensures { (result ≤ 7) × (run (passes Line) (drop i s.now) ≡ result + run (passes Line) (drop (i + result) s.now)) }
+// How many of a block's first seven bytes stand before the line's end; no branch depends on where it is.
+fn before_end(block: &[u8]) -> usize
+    requires { 7 ≤ length block.now }
+    ensures { result ≤ run (passes Line) block.now }
 {
     let mut n = 0;
     let mut more = 1;
-    let mut j = 0;
-    while j < 7 {
-        more = unless_end(more, s[i + j]);
+    for b in &block[..7] {
+        more = unless_end(more, *b);
         n += more;
-        j += 1;
     }
     n
 }
@@ -221,22 +198,20 @@ fn before_end(s: &[u8], i: usize) -> usize
 pub fn line_end(s: &[u8], at: usize) -> usize
     ensures { result ≡ at + run (passes Line) (drop at s.now) }
 {
-    if at < s.len() {
-        if is_line_end(s[at]) {
-            return at;
-        }
+    if s.len() <= at {
+        return at;
+    }
+    if is_line_end(s[at]) {
+        return at;
     }
     let mut i = at;
-    while i < s.len() {
-        if s.len() - i < 8 {
-            return past(s, i, Run::Line);
-        }
-        if ends_within(s, i) {
-            return past(s, i + before_end(s, i), Run::Line);
+    for block in s[at..].chunks_exact(8) {
+        if ends_within(block) {
+            return past(s, i + before_end(block), Run::Line);
         }
         i += 8;
     }
-    i
+    past(s, i, Run::Line)
 }
 
 // No number is read above this one: it is above every limit.
@@ -248,79 +223,52 @@ fn with_digit(v: u32, b: u8) -> u32
     ensures { result ≡ min cap (v * 10 + (b - 48)) }
 {
     let w = v * 10 + (b - b'0') as u32;
-    if w < CAP {
-        return w;
-    }
-    CAP
-}
-
-#[derive(Clone, Copy)]
-pub enum Digits {
-    Value(u32),
-    Bad,
+    w.min(CAP)
 }
 
 // The number that the bytes from a place on are.
-fn digits_from(word: &[u8], from: usize) -> Digits
+fn digits_from(word: &[u8], from: usize) -> Option<u32>
     ensures { result ≡ digits_in (drop from word.now) }
 {
     if word.len() <= from {
-        return Digits::Bad;
+        return None;
     }
     let d = word[from];
     if d == b'0' {
         if from + 1 == word.len() {
-            return Digits::Value(0);
+            return Some(0);
         }
-        return Digits::Bad;
+        return None;
     }
     let mut v: u32 = 0;
-    let mut i = from;
-    while i < word.len() {
+    for i in from..word.len() {
         let b = word[i];
         if !is_digit(b) {
-            return Digits::Bad;
+            return None;
         }
         v = with_digit(v, b);
-        i += 1;
     }
-    Digits::Value(v)
+    Some(v)
 }
 
-// The code of a number of at most the cap: 2v for v, 2v + 1 for -v; anything else.
-#[derive(Clone, Copy)]
-pub enum Number {
-    Of(u32),
-    Bad,
-}
-
-// The number reader.
-pub fn number_of(word: &[u8]) -> Number
+// The number reader: the code of a number of at most the cap, 2v for v and 2v + 1 for -v.
+pub fn number_of(word: &[u8]) -> Option<u32>
     ensures { result ≡ number_in word.now }
 {
-    if let Digits::Value(v) = digits_from(word, 0) {
-        return Number::Of(2 * v);
+    if let Some(v) = digits_from(word, 0) {
+        return Some(2 * v);
     }
     if word.len() == 0 {
-        return Number::Bad;
+        return None;
     }
     if !is_minus(word[0]) {
-        return Number::Bad;
+        return None;
     }
-    let Digits::Value(v) = digits_from(word, 1) else {
-        return Number::Bad;
-    };
+    let v = digits_from(word, 1)?;
     if v == 0 {
-        return Number::Bad;
+        return None;
     }
-    Number::Of(2 * v + 1)
-}
-
-// The code of a literal, 2v or 2v + 1, and the place after it.
-#[derive(Clone, Copy)]
-pub enum Literal {
-    Of(u32, usize),
-    Bad,
+    Some(2 * v + 1)
 }
 
 // Whether no word goes on at a place: a blank or the end is there.
@@ -333,13 +281,6 @@ fn word_ends(line: &[u8], at: usize) -> bool
     is_blank(line[at])
 }
 
-// A number or a literal's code, and the place after it; or nothing is said of the word.
-#[derive(Clone, Copy)]
-pub enum Plain {
-    Of(u32, usize),
-    Unread,
-}
-
 // Whether another digit can follow: there is no leading zero, and the number stays below the cap.
 fn grows(v: u32) -> bool
     ensures { result ≡ true → (0 < v) × (v < 10000000) }
@@ -348,44 +289,39 @@ fn grows(v: u32) -> bool
 }
 
 // The number without a sign that the word from a place on is, in one walk over its bytes, if it has at most eight digits.
-fn unsigned_at(line: &[u8], from: usize) -> Plain
-    ensures { (v e : ℕ) → result ≡ Plain.Of v e → (e ≡ from + run (passes Word) (drop from line.now))
-        × (digits_in (take (e - from) (drop from line.now)) ≡ Digits.Value v) }
+fn unsigned_at(line: &[u8], from: usize) -> Option<(u32, usize)>
+    ensures { (v e : ℕ) → result ≡ Some (v, e) → (e ≡ from + run (passes Word) (drop from line.now))
+        × (digits_in (take (e - from) (drop from line.now)) ≡ Some v) }
 {
     if line.len() <= from {
-        return Plain::Unread;
+        return None;
     }
     let first = line[from];
     if !is_digit(first) {
-        return Plain::Unread;
+        return None;
     }
     let mut v = (first - b'0') as u32;
-    let mut i = from + 1;
-    while i < line.len() {
+    for i in from + 1..line.len() {
         let b = line[i];
         if !is_digit(b) {
             if is_blank(b) {
-                return Plain::Of(v, i);
+                return Some((v, i));
             }
-            return Plain::Unread;
+            return None;
         }
         if !grows(v) {
-            return Plain::Unread;
+            return None;
         }
         v = v * 10 + (b - b'0') as u32;
-        i += 1;
     }
-    Plain::Of(v, i)
+    Some((v, line.len()))
 }
 
 // 1 for a minus, else 0: the last bit of a literal's code.
 fn sign_of(b: u8) -> u32
     ensures { result ≡ cond (is_minus b) 1 0 }
 {
-    if is_minus(b) {
-        return 1;
-    }
-    0
+    is_minus(b) as u32
 }
 
 // The sign of what is at the place.
@@ -399,35 +335,62 @@ fn minus_at(line: &[u8], s: usize) -> u32
 }
 
 // The next token as a literal, or as the zero that ends a list, in one walk, if it is well-formed and short.
-pub fn plain_at(line: &[u8], at: usize) -> Plain
-    ensures { (x e : ℕ) → result ≡ Plain.Of x e → literal_at line.now at ≡ Literal.Of x e }
+pub fn plain_at(line: &[u8], at: usize) -> Option<(u32, usize)>
+    ensures { (x e : ℕ) → result ≡ Some (x, e) → literal_at line.now at ≡ Some (x, e) }
 {
     let s = past(line, at, Run::Blanks);
     let sign = minus_at(line, s);
-    if let Plain::Of(v, e) = unsigned_at(line, s + sign as usize) {
+    if let Some((v, e)) = unsigned_at(line, s + sign as usize) {
         if sign <= v {
-            return Plain::Of(2 * v + sign, e);
+            return Some((2 * v + sign, e));
         }
     }
-    Plain::Unread
+    None
 }
 
 // The next token as a literal, or as the zero that ends a list. What `plain_at` does not read is read by `number_of`.
-pub fn literal_at(line: &[u8], at: usize) -> Literal
+pub fn literal_at(line: &[u8], at: usize) -> Option<(u32, usize)>
     ensures { result ≡ literal_at line.now at }
 {
-    if let Plain::Of(x, e) = plain_at(line, at) {
-        return Literal::Of(x, e);
+    if let Some((x, e)) = plain_at(line, at) {
+        return Some((x, e));
     }
     let s = past(line, at, Run::Blanks);
     if line.len() <= s {
-        return Literal::Bad;
+        return None;
     }
     let e = past(line, s, Run::Word);
-    let Number::Of(x) = number_of(&line[s..e]) else {
-        return Literal::Bad;
-    };
-    Literal::Of(x, e)
+    let x = number_of(&line[s..e])?;
+    Some((x, e))
+}
+
+// The literals of a line from a place on, each with the place after it, up to a token that is none; the zero that ends a list is among them.
+#[derive(Clone, Copy)]
+pub struct Literals<'a> {
+    line: &'a [u8],
+    at: usize,
+}
+
+impl<'a> Literals<'a> {
+    pub fn new(line: &'a [u8], at: usize) -> Literals<'a>
+        ensures { (literals_line result ≡ line.now) × (literals_at result ≡ at) }
+    {
+        Literals { line, at }
+    }
+}
+
+impl<'a> Iterator for Literals<'a> {
+    type Item = (u32, usize);
+
+    ghost next_gives = { GivesLiteral };
+
+    ghost remaining = { bytes_left };
+
+    fn next(&mut self) -> Option<(u32, usize)> {
+        let (x, e) = literal_at(self.line, self.at)?;
+        self.at = e;
+        Some((x, e))
+    }
 }
 
 // Whether nothing more stands on the line.
@@ -437,41 +400,19 @@ pub fn ended(line: &[u8], at: usize) -> bool
     line.len() <= past_blanks(line, at)
 }
 
-fn same(a: &[u8], b: &[u8]) -> bool
-    ensures { result ≡ same_bytes a.now b.now }
-{
-    let mut i = 0;
-    while i < a.len() {
-        if b.len() <= i {
-            return false;
-        }
-        if a[i] != b[i] {
-            return false;
-        }
-        i += 1;
-    }
-    b.len() <= i
-}
-
-#[derive(Clone, Copy)]
-pub enum Found {
-    After(usize),
-    Nothing,
-}
-
 // Whether the next token is this word, and the place after it.
-pub fn word_is(line: &[u8], at: usize, word: &[u8]) -> Found
+pub fn word_is(line: &[u8], at: usize, word: &[u8]) -> Option<usize>
     ensures { result ≡ word_is line.now at word.now }
 {
     let s = past_blanks(line, at);
     if line.len() <= s {
-        return Found::Nothing;
+        return None;
     }
     let e = past(line, s, Run::Word);
-    if same(&line[s..e], word) {
-        return Found::After(e);
+    if &line[s..e] == word {
+        return Some(e);
     }
-    Found::Nothing
+    None
 }
 
 // How a line begins: it is skipped; with a word of one byte, and the place after it; with another word.
@@ -507,14 +448,12 @@ pub fn line_start(s: &[u8], line: usize) -> usize
         return s.len();
     }
     let mut at = 0;
-    let mut left = line - 1;
-    while 0 < left {
+    for _ in 1..line {
         let e = line_end(s, at);
         if s.len() <= e {
             return s.len();
         }
         at = e + 1;
-        left -= 1;
     }
     at
 }

@@ -1,281 +1,270 @@
 // The classes of the 256 bytes, as a table.
 ghost use Rattle.lines.specs.Bytes.{Ranked};
 
-// The classes' ranks: their places in the list of `Class`.
-pub(crate) const BLANK: u8 = 0;
+use crate::Class;
 
-pub(crate) const LINE_END: u8 = 1;
-
-pub(crate) const DIGIT: u8 = 2;
-
-pub(crate) const MINUS: u8 = 3;
-
-pub(crate) const LETTER: u8 = 4;
-
-pub(crate) const OTHER: u8 = 5;
-
-// Entry b is the rank of the class of byte b.
-const CLASSES: [u8; 256] = [
-    OTHER, // 0
-    OTHER, // 1
-    OTHER, // 2
-    OTHER, // 3
-    OTHER, // 4
-    OTHER, // 5
-    OTHER, // 6
-    OTHER, // 7
-    OTHER, // 8
-    BLANK, // 9: tab
-    LINE_END, // 10: line feed
-    OTHER, // 11
-    OTHER, // 12
-    BLANK, // 13: carriage return
-    OTHER, // 14
-    OTHER, // 15
-    OTHER, // 16
-    OTHER, // 17
-    OTHER, // 18
-    OTHER, // 19
-    OTHER, // 20
-    OTHER, // 21
-    OTHER, // 22
-    OTHER, // 23
-    OTHER, // 24
-    OTHER, // 25
-    OTHER, // 26
-    OTHER, // 27
-    OTHER, // 28
-    OTHER, // 29
-    OTHER, // 30
-    OTHER, // 31
-    BLANK, // 32: space
-    OTHER, // 33: !
-    OTHER, // 34: "
-    OTHER, // 35: #
-    OTHER, // 36: $
-    OTHER, // 37: %
-    OTHER, // 38: &
-    OTHER, // 39: '
-    OTHER, // 40: (
-    OTHER, // 41: )
-    OTHER, // 42: *
-    OTHER, // 43: +
-    OTHER, // 44: ,
-    MINUS, // 45: -
-    OTHER, // 46: .
-    OTHER, // 47: /
-    DIGIT, // 48: 0
-    DIGIT, // 49: 1
-    DIGIT, // 50: 2
-    DIGIT, // 51: 3
-    DIGIT, // 52: 4
-    DIGIT, // 53: 5
-    DIGIT, // 54: 6
-    DIGIT, // 55: 7
-    DIGIT, // 56: 8
-    DIGIT, // 57: 9
-    OTHER, // 58: :
-    OTHER, // 59: ;
-    OTHER, // 60: <
-    OTHER, // 61: =
-    OTHER, // 62: >
-    OTHER, // 63: ?
-    OTHER, // 64: @
-    LETTER, // 65: A
-    LETTER, // 66: B
-    LETTER, // 67: C
-    LETTER, // 68: D
-    LETTER, // 69: E
-    LETTER, // 70: F
-    LETTER, // 71: G
-    LETTER, // 72: H
-    LETTER, // 73: I
-    LETTER, // 74: J
-    LETTER, // 75: K
-    LETTER, // 76: L
-    LETTER, // 77: M
-    LETTER, // 78: N
-    LETTER, // 79: O
-    LETTER, // 80: P
-    LETTER, // 81: Q
-    LETTER, // 82: R
-    LETTER, // 83: S
-    LETTER, // 84: T
-    LETTER, // 85: U
-    LETTER, // 86: V
-    LETTER, // 87: W
-    LETTER, // 88: X
-    LETTER, // 89: Y
-    LETTER, // 90: Z
-    OTHER, // 91: [
-    OTHER, // 92: \
-    OTHER, // 93: ]
-    OTHER, // 94: ^
-    OTHER, // 95: _
-    OTHER, // 96: `
-    LETTER, // 97: a
-    LETTER, // 98: b
-    LETTER, // 99: c
-    LETTER, // 100: d
-    LETTER, // 101: e
-    LETTER, // 102: f
-    LETTER, // 103: g
-    LETTER, // 104: h
-    LETTER, // 105: i
-    LETTER, // 106: j
-    LETTER, // 107: k
-    LETTER, // 108: l
-    LETTER, // 109: m
-    LETTER, // 110: n
-    LETTER, // 111: o
-    LETTER, // 112: p
-    LETTER, // 113: q
-    LETTER, // 114: r
-    LETTER, // 115: s
-    LETTER, // 116: t
-    LETTER, // 117: u
-    LETTER, // 118: v
-    LETTER, // 119: w
-    LETTER, // 120: x
-    LETTER, // 121: y
-    LETTER, // 122: z
-    OTHER, // 123: {
-    OTHER, // 124: |
-    OTHER, // 125: }
-    OTHER, // 126: ~
-    OTHER, // 127
-    OTHER, // 128
-    OTHER, // 129
-    OTHER, // 130
-    OTHER, // 131
-    OTHER, // 132
-    OTHER, // 133
-    OTHER, // 134
-    OTHER, // 135
-    OTHER, // 136
-    OTHER, // 137
-    OTHER, // 138
-    OTHER, // 139
-    OTHER, // 140
-    OTHER, // 141
-    OTHER, // 142
-    OTHER, // 143
-    OTHER, // 144
-    OTHER, // 145
-    OTHER, // 146
-    OTHER, // 147
-    OTHER, // 148
-    OTHER, // 149
-    OTHER, // 150
-    OTHER, // 151
-    OTHER, // 152
-    OTHER, // 153
-    OTHER, // 154
-    OTHER, // 155
-    OTHER, // 156
-    OTHER, // 157
-    OTHER, // 158
-    OTHER, // 159
-    OTHER, // 160
-    OTHER, // 161
-    OTHER, // 162
-    OTHER, // 163
-    OTHER, // 164
-    OTHER, // 165
-    OTHER, // 166
-    OTHER, // 167
-    OTHER, // 168
-    OTHER, // 169
-    OTHER, // 170
-    OTHER, // 171
-    OTHER, // 172
-    OTHER, // 173
-    OTHER, // 174
-    OTHER, // 175
-    OTHER, // 176
-    OTHER, // 177
-    OTHER, // 178
-    OTHER, // 179
-    OTHER, // 180
-    OTHER, // 181
-    OTHER, // 182
-    OTHER, // 183
-    OTHER, // 184
-    OTHER, // 185
-    OTHER, // 186
-    OTHER, // 187
-    OTHER, // 188
-    OTHER, // 189
-    OTHER, // 190
-    OTHER, // 191
-    OTHER, // 192
-    OTHER, // 193
-    OTHER, // 194
-    OTHER, // 195
-    OTHER, // 196
-    OTHER, // 197
-    OTHER, // 198
-    OTHER, // 199
-    OTHER, // 200
-    OTHER, // 201
-    OTHER, // 202
-    OTHER, // 203
-    OTHER, // 204
-    OTHER, // 205
-    OTHER, // 206
-    OTHER, // 207
-    OTHER, // 208
-    OTHER, // 209
-    OTHER, // 210
-    OTHER, // 211
-    OTHER, // 212
-    OTHER, // 213
-    OTHER, // 214
-    OTHER, // 215
-    OTHER, // 216
-    OTHER, // 217
-    OTHER, // 218
-    OTHER, // 219
-    OTHER, // 220
-    OTHER, // 221
-    OTHER, // 222
-    OTHER, // 223
-    OTHER, // 224
-    OTHER, // 225
-    OTHER, // 226
-    OTHER, // 227
-    OTHER, // 228
-    OTHER, // 229
-    OTHER, // 230
-    OTHER, // 231
-    OTHER, // 232
-    OTHER, // 233
-    OTHER, // 234
-    OTHER, // 235
-    OTHER, // 236
-    OTHER, // 237
-    OTHER, // 238
-    OTHER, // 239
-    OTHER, // 240
-    OTHER, // 241
-    OTHER, // 242
-    OTHER, // 243
-    OTHER, // 244
-    OTHER, // 245
-    OTHER, // 246
-    OTHER, // 247
-    OTHER, // 248
-    OTHER, // 249
-    OTHER, // 250
-    OTHER, // 251
-    OTHER, // 252
-    OTHER, // 253
-    OTHER, // 254
-    OTHER, // 255
+// Entry b is the class of byte b.
+const CLASSES: [Class; 256] = [
+    Class::Other, // 0
+    Class::Other, // 1
+    Class::Other, // 2
+    Class::Other, // 3
+    Class::Other, // 4
+    Class::Other, // 5
+    Class::Other, // 6
+    Class::Other, // 7
+    Class::Other, // 8
+    Class::Blank, // 9: tab
+    Class::LineEnd, // 10: line feed
+    Class::Other, // 11
+    Class::Other, // 12
+    Class::Blank, // 13: carriage return
+    Class::Other, // 14
+    Class::Other, // 15
+    Class::Other, // 16
+    Class::Other, // 17
+    Class::Other, // 18
+    Class::Other, // 19
+    Class::Other, // 20
+    Class::Other, // 21
+    Class::Other, // 22
+    Class::Other, // 23
+    Class::Other, // 24
+    Class::Other, // 25
+    Class::Other, // 26
+    Class::Other, // 27
+    Class::Other, // 28
+    Class::Other, // 29
+    Class::Other, // 30
+    Class::Other, // 31
+    Class::Blank, // 32: space
+    Class::Other, // 33: !
+    Class::Other, // 34: "
+    Class::Other, // 35: #
+    Class::Other, // 36: $
+    Class::Other, // 37: %
+    Class::Other, // 38: &
+    Class::Other, // 39: '
+    Class::Other, // 40: (
+    Class::Other, // 41: )
+    Class::Other, // 42: *
+    Class::Other, // 43: +
+    Class::Other, // 44: ,
+    Class::Minus, // 45: -
+    Class::Other, // 46: .
+    Class::Other, // 47: /
+    Class::Digit, // 48: 0
+    Class::Digit, // 49: 1
+    Class::Digit, // 50: 2
+    Class::Digit, // 51: 3
+    Class::Digit, // 52: 4
+    Class::Digit, // 53: 5
+    Class::Digit, // 54: 6
+    Class::Digit, // 55: 7
+    Class::Digit, // 56: 8
+    Class::Digit, // 57: 9
+    Class::Other, // 58: :
+    Class::Other, // 59: ;
+    Class::Other, // 60: <
+    Class::Other, // 61: =
+    Class::Other, // 62: >
+    Class::Other, // 63: ?
+    Class::Other, // 64: @
+    Class::Letter, // 65: A
+    Class::Letter, // 66: B
+    Class::Letter, // 67: C
+    Class::Letter, // 68: D
+    Class::Letter, // 69: E
+    Class::Letter, // 70: F
+    Class::Letter, // 71: G
+    Class::Letter, // 72: H
+    Class::Letter, // 73: I
+    Class::Letter, // 74: J
+    Class::Letter, // 75: K
+    Class::Letter, // 76: L
+    Class::Letter, // 77: M
+    Class::Letter, // 78: N
+    Class::Letter, // 79: O
+    Class::Letter, // 80: P
+    Class::Letter, // 81: Q
+    Class::Letter, // 82: R
+    Class::Letter, // 83: S
+    Class::Letter, // 84: T
+    Class::Letter, // 85: U
+    Class::Letter, // 86: V
+    Class::Letter, // 87: W
+    Class::Letter, // 88: X
+    Class::Letter, // 89: Y
+    Class::Letter, // 90: Z
+    Class::Other, // 91: [
+    Class::Other, // 92: \
+    Class::Other, // 93: ]
+    Class::Other, // 94: ^
+    Class::Other, // 95: _
+    Class::Other, // 96: `
+    Class::Letter, // 97: a
+    Class::Letter, // 98: b
+    Class::Letter, // 99: c
+    Class::Letter, // 100: d
+    Class::Letter, // 101: e
+    Class::Letter, // 102: f
+    Class::Letter, // 103: g
+    Class::Letter, // 104: h
+    Class::Letter, // 105: i
+    Class::Letter, // 106: j
+    Class::Letter, // 107: k
+    Class::Letter, // 108: l
+    Class::Letter, // 109: m
+    Class::Letter, // 110: n
+    Class::Letter, // 111: o
+    Class::Letter, // 112: p
+    Class::Letter, // 113: q
+    Class::Letter, // 114: r
+    Class::Letter, // 115: s
+    Class::Letter, // 116: t
+    Class::Letter, // 117: u
+    Class::Letter, // 118: v
+    Class::Letter, // 119: w
+    Class::Letter, // 120: x
+    Class::Letter, // 121: y
+    Class::Letter, // 122: z
+    Class::Other, // 123: {
+    Class::Other, // 124: |
+    Class::Other, // 125: }
+    Class::Other, // 126: ~
+    Class::Other, // 127
+    Class::Other, // 128
+    Class::Other, // 129
+    Class::Other, // 130
+    Class::Other, // 131
+    Class::Other, // 132
+    Class::Other, // 133
+    Class::Other, // 134
+    Class::Other, // 135
+    Class::Other, // 136
+    Class::Other, // 137
+    Class::Other, // 138
+    Class::Other, // 139
+    Class::Other, // 140
+    Class::Other, // 141
+    Class::Other, // 142
+    Class::Other, // 143
+    Class::Other, // 144
+    Class::Other, // 145
+    Class::Other, // 146
+    Class::Other, // 147
+    Class::Other, // 148
+    Class::Other, // 149
+    Class::Other, // 150
+    Class::Other, // 151
+    Class::Other, // 152
+    Class::Other, // 153
+    Class::Other, // 154
+    Class::Other, // 155
+    Class::Other, // 156
+    Class::Other, // 157
+    Class::Other, // 158
+    Class::Other, // 159
+    Class::Other, // 160
+    Class::Other, // 161
+    Class::Other, // 162
+    Class::Other, // 163
+    Class::Other, // 164
+    Class::Other, // 165
+    Class::Other, // 166
+    Class::Other, // 167
+    Class::Other, // 168
+    Class::Other, // 169
+    Class::Other, // 170
+    Class::Other, // 171
+    Class::Other, // 172
+    Class::Other, // 173
+    Class::Other, // 174
+    Class::Other, // 175
+    Class::Other, // 176
+    Class::Other, // 177
+    Class::Other, // 178
+    Class::Other, // 179
+    Class::Other, // 180
+    Class::Other, // 181
+    Class::Other, // 182
+    Class::Other, // 183
+    Class::Other, // 184
+    Class::Other, // 185
+    Class::Other, // 186
+    Class::Other, // 187
+    Class::Other, // 188
+    Class::Other, // 189
+    Class::Other, // 190
+    Class::Other, // 191
+    Class::Other, // 192
+    Class::Other, // 193
+    Class::Other, // 194
+    Class::Other, // 195
+    Class::Other, // 196
+    Class::Other, // 197
+    Class::Other, // 198
+    Class::Other, // 199
+    Class::Other, // 200
+    Class::Other, // 201
+    Class::Other, // 202
+    Class::Other, // 203
+    Class::Other, // 204
+    Class::Other, // 205
+    Class::Other, // 206
+    Class::Other, // 207
+    Class::Other, // 208
+    Class::Other, // 209
+    Class::Other, // 210
+    Class::Other, // 211
+    Class::Other, // 212
+    Class::Other, // 213
+    Class::Other, // 214
+    Class::Other, // 215
+    Class::Other, // 216
+    Class::Other, // 217
+    Class::Other, // 218
+    Class::Other, // 219
+    Class::Other, // 220
+    Class::Other, // 221
+    Class::Other, // 222
+    Class::Other, // 223
+    Class::Other, // 224
+    Class::Other, // 225
+    Class::Other, // 226
+    Class::Other, // 227
+    Class::Other, // 228
+    Class::Other, // 229
+    Class::Other, // 230
+    Class::Other, // 231
+    Class::Other, // 232
+    Class::Other, // 233
+    Class::Other, // 234
+    Class::Other, // 235
+    Class::Other, // 236
+    Class::Other, // 237
+    Class::Other, // 238
+    Class::Other, // 239
+    Class::Other, // 240
+    Class::Other, // 241
+    Class::Other, // 242
+    Class::Other, // 243
+    Class::Other, // 244
+    Class::Other, // 245
+    Class::Other, // 246
+    Class::Other, // 247
+    Class::Other, // 248
+    Class::Other, // 249
+    Class::Other, // 250
+    Class::Other, // 251
+    Class::Other, // 252
+    Class::Other, // 253
+    Class::Other, // 254
+    Class::Other, // 255
 ];
 
 // The table. An index that the compiler does not know has it laid out on the stack, in each call anew.
-pub(crate) fn ranks() -> [u8; 256]
+pub(crate) fn classes() -> [Class; 256]
     ensures { Ranked result }
 {
     CLASSES

@@ -2,18 +2,14 @@
 use mathlib.Core.Path.{◌≡◌, ap, sym, ◌∙◌}
 use mathlib.Core.List.{List, [], ◌∷◌}
 use mathlib.Core.Logic.{◌⊎◌, inl, inr}
-use Prim.Native.Nat.{ℕ, ◌+◌, ◌-◌, ◌<◌, ◌≤◌, max}
-use native.Mathlib.Omega.{arith}
-use lib.ListN.{length, take, drop}
-use Rattle.lines.specs.Lines.{read_line, lines_of, Token, number, minus, word}
-use Rattle.lines.specs.Scan.{passes, run, tokens_from, literal_at, head_of}
-use Rattle.lines.specs.declared.Run.TheVariants.{Line}
-use Rattle.lines.specs.declared.Literal.{Literal}
+use Prim.Native.Nat.{ℕ, max}
+use Rattle.lines.specs.Lines.{read_line, Token, number, minus, word}
+use Rattle.lines.specs.Scan.{tokens_from, literal_at, head_of}
+use Rattle.std.specs.Prelude.{None, Some}
 use Rattle.lines.specs.declared.Head.{Head}
 use Rattle.lines.proofs.Words.{Coded, literal_told, literal_lost}
-use Rattle.lines.proofs.Runs.{line_last, line_next}
 use Rattle.lines.proofs.Heads.{head_skipped, head_letter, head_other}
-use Rattle.lines_c.specs.Largest.{largest, in_line, in_lines}
+use Rattle.lines_c.specs.Largest.{largest, in_line}
 
 coded : (t : Token) (ts : List Token) (x : ℕ) → Coded t x → largest (t ∷ ts) ≡ max x (largest ts)
 unfolding largest
@@ -23,11 +19,11 @@ coded (word w) ts x k = absurd k
 
 module _ (bs : List ℕ) (at : ℕ) where
   -- a literal was read
-  pub one_more : {x e : ℕ} → literal_at bs at ≡ Literal.Of x e → largest (tokens_from bs at) ≡ max x (largest (tokens_from bs e))
+  pub one_more : {x e : ℕ} → literal_at bs at ≡ Some (x, e) → largest (tokens_from bs at) ≡ max x (largest (tokens_from bs e))
   one_more {x} {e} h = let t = literal_told bs at h in ap largest t.first ∙ coded t.token (tokens_from bs e) x t.code
 
   -- there is none
-  pub no_more : literal_at bs at ≡ Literal.Bad → largest (tokens_from bs at) ≡ 0
+  pub no_more : literal_at bs at ≡ None → largest (tokens_from bs at) ≡ 0
   unfolding largest
   no_more h = go (literal_lost bs at h)
     where
@@ -44,13 +40,3 @@ module _ (bs : List ℕ) where
 
   pub other : head_of bs ≡ Head.Other → {r : ℕ} → r ≡ largest (tokens_from bs 0) → r ≡ in_line (read_line bs)
   other h q = q ∙ sym (ap in_line (head_other bs h).2)
-
--- the line from a place on, e is its end
-module _ (bs : List ℕ) (at : ℕ) {e : ℕ} (h : e ≡ at + run (passes Line) (drop at bs)) where
-  pub last_line : length bs ≤ e → in_lines (lines_of (drop at bs)) ≡ in_line (read_line (take (e - at) (drop at bs)))
-  unfolding in_lines
-  last_line l = ap in_lines (line_last bs at h l) ∙ omega arith
-
-  pub next_line : e < length bs → in_lines (lines_of (drop at bs)) ≡ max (in_line (read_line (take (e - at) (drop at bs)))) (in_lines (lines_of (drop (e + 1) bs)))
-  unfolding in_lines
-  next_line l = ap in_lines (line_next bs at h l)

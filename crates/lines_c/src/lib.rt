@@ -6,21 +6,17 @@ ghost use Rattle.lines.specs.Lines.{read_line, lines_of};
 ghost use Rattle.lines.specs.Scan.{tokens_from};
 ghost use Rattle.lines_c.specs.Largest.{largest, in_line, in_lines};
 
-use lines::{Head, Literal};
+use lines::{Head, Lines, Literals};
 
 // The largest code among the literals of a line, up to the first token that is none.
 fn in_tokens(line: &[u8]) -> u32
     ensures { result ≡ largest (tokens_from line.now 0) }
 {
-    let mut m: u32 = 0;
-    let mut i = 0;
-    loop {
-        let Literal::Of(x, e) = lines::literal_at(line, i) else {
-            return m;
-        };
-        m = cells::larger(m, x);
-        i = e;
+    let mut most = 0;
+    for (x, _) in Literals::new(line, 0) {
+        most = x.max(most);
     }
+    most
 }
 
 fn in_line(line: &[u8]) -> u32
@@ -33,18 +29,14 @@ fn in_line(line: &[u8]) -> u32
     }
 }
 
+#[tactic(auto, unfolding(crate::specs::Largest::in_lines))]
 #[unsafe(no_mangle)]
 pub extern "C" fn hutsvida_largest(file: &[u8]) -> u32
     ensures { result ≡ in_lines (lines_of file.now) }
 {
-    let mut m: u32 = 0;
-    let mut at = 0;
-    loop {
-        let e = lines::line_end(file, at);
-        m = cells::larger(m, in_line(&file[at..e]));
-        if file.len() <= e {
-            return m;
-        }
-        at = e + 1;
+    let mut most = 0;
+    for line in Lines::new(file) {
+        most = in_line(line).max(most);
     }
+    most
 }

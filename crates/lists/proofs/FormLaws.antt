@@ -4,7 +4,7 @@ use mathlib.Core.Path.{◌≡◌, refl, ap, ap₂, sym, ◌∙◌, subst}
 use mathlib.Core.Bool.{Bool, true, false, not, false≢true}
 use mathlib.Core.List.{List, [], ◌∷◌, map}
 use mathlib.Core.Option.{Option, none, some}
-use Prim.Native.Nat.{ℕ, suc, max}
+use Prim.Native.Nat.{ℕ, suc}
 use native.Mathlib.Omega.{arith}
 use lib.ListN.{length, length-map}
 use lib.Dec.{eqb}
@@ -16,12 +16,12 @@ use Rattle.rules.specs.Basics.{maybe}
 use Rattle.rules.specs.Literals.{pos, neg, Lits, vars, var}
 use Rattle.rules.specs.Formula.{Bound}
 use Rattle.rules.specs.Forms.{FormulaLine, binding, CertificateLine, mapping, hints, up_to_zero, literal, numeral, is_zero, ahead, whole, provided, ◌>>=◌, clause_form, hints_form, binding_form, mapping_form}
-use Rattle.lists.specs.declared.Listed.{Listed}
-use Rattle.lists.specs.declared.Clause.{Clause}
-use Rattle.lists.specs.declared.Mapping.{Mapping}
-use Rattle.lists.specs.declared.Ending.{Ending}
+use Rattle.std.specs.Prelude.{Option as Answer, None, Some, Result, Err}
+use Rattle.rules.specs.declared.Rule.{Rule}
+use Rattle.lists.specs.declared.Measure.{Measure}
+use Rattle.lists.specs.declared.MappingLists.{MappingLists}
 use Rattle.lists.specs.Stores.{ending_at}
-use Rattle.lists.specs.Lists.{place_after, signs, capped, listed_at, lits_at, is_list, exactly, surveyed, clause_at, mapped, mapping_at}
+use Rattle.lists.specs.Lists.{place_after, has_minus, capped, listed_at, lits_at, is_list, exactly, surveyed, clause_at, mapped, mapping_at}
 use Rattle.lists.proofs.ListLaws.{upto_zero, upto_more, Listing, listing_list, listed_lost, listed_told}
 use Rattle.lists.proofs.StoreLaws.{ending_good}
 
@@ -30,13 +30,11 @@ abbrev unless_signed : Bool → Lits → List Token → Option (List ℕ × List
 unless_signed t c ts = provided t (vars c, ts)
 
 abbrev pub unsigned : Option (Lits × List Token) → Option (List ℕ × List Token)
-unsigned r = r >>= λ r. unless_signed (eqb (signs r.0) 0) r.0 r.1
+unsigned r = r >>= λ r. unless_signed (not (has_minus r.0)) r.0 r.1
 
 unsigned_plain : (n : ℕ) (r : Option (Lits × List Token)) → ahead (some n) (unsigned r) ≡ unsigned (ahead (some (pos n)) r)
 unsigned_plain n none = refl
-unsigned_plain n (some r) =
-    let e : signs r.0 ≡ max 0 (signs r.0) = omega arith in
-    go (eqb (signs r.0) 0) ∙ ap (λ s. provided (eqb s 0) (n ∷ vars r.0, r.1)) e
+unsigned_plain n (some r) = go (not (has_minus r.0))
   where
     go : (t : Bool) → ahead (some n) (provided t (vars r.0, r.1)) ≡ provided t (n ∷ vars r.0, r.1)
     go true = refl
@@ -44,7 +42,7 @@ unsigned_plain n (some r) =
 
 unsigned_minus : (n : ℕ) (r : Option (Lits × List Token)) → none ≡ unsigned (ahead (some (neg n)) r)
 unsigned_minus n none = refl
-unsigned_minus n (some r) = sym (ap (λ t. provided t (n ∷ vars r.0, r.1)) (ne_eqb (max 1 (signs r.0)) 0 (λ e. omega arith)))
+unsigned_minus n (some r) = refl
 
 pub numerals : (ts : List Token) → up_to_zero numeral ts ≡ unsigned (up_to_zero literal ts)
 numerals [] = refl
@@ -78,7 +76,7 @@ module _ {A B : Type 0} (k : A → B) where
       go a [] = refl
       go a (t ∷ ts) = refl
 
-pub exactly_numerals : (ts : List Token) → exactly numeral ts ≡ maybe (exactly literal ts) none (λ c. provided (eqb (signs c) 0) (vars c))
+pub exactly_numerals : (ts : List Token) → exactly numeral ts ≡ maybe (exactly literal ts) none (λ c. provided (not (has_minus c)) (vars c))
 unfolding exactly
 exactly_numerals ts = ap (λ r. r >>= λ r. whole r.0 r.1) (numerals ts) ∙ go (up_to_zero literal ts)
   where
@@ -88,13 +86,13 @@ exactly_numerals ts = ap (λ r. r >>= λ r. whole r.0 r.1) (numerals ts) ∙ go 
     test c (x ∷ ts) true = refl
     test c (x ∷ ts) false = refl
 
-    ends : (c : Lits) (ts : List Token) → maybe (whole c ts) none (λ d. provided (eqb (signs c) 0) (vars d)) ≡ maybe (whole c ts) none (λ d. provided (eqb (signs d) 0) (vars d))
+    ends : (c : Lits) (ts : List Token) → maybe (whole c ts) none (λ d. provided (not (has_minus c)) (vars d)) ≡ maybe (whole c ts) none (λ d. provided (not (has_minus d)) (vars d))
     ends c [] = refl
     ends c (t ∷ ts) = refl
 
-    go : (r : Option (Lits × List Token)) → (unsigned r >>= λ r. whole r.0 r.1) ≡ maybe (r >>= λ r. whole r.0 r.1) none (λ c. provided (eqb (signs c) 0) (vars c))
+    go : (r : Option (Lits × List Token)) → (unsigned r >>= λ r. whole r.0 r.1) ≡ maybe (r >>= λ r. whole r.0 r.1) none (λ c. provided (not (has_minus c)) (vars c))
     go none = refl
-    go (some r) = test r.0 r.1 (eqb (signs r.0) 0) ∙ ends r.0 r.1
+    go (some r) = test r.0 r.1 (not (has_minus r.0)) ∙ ends r.0 r.1
 
 -- THE FORMS
 pub clause_form_lem : {A : Type 0} (kind : Lits → A) (ts : List Token) → clause_form kind ts ≡ maybe (exactly literal ts) none (λ c. some (kind c))
@@ -111,7 +109,7 @@ unfolding exactly
 binding_form_lem quantifier ts = closing_if (λ vs. binding (map quantifier vs)) (λ vs. not (is_empty vs)) (up_to_zero numeral ts)
 
 -- A LINE OF LITERALS AND A ZERO
-pub record Seen (bs : List ℕ) (at s n m : ℕ) : Type 0 where
+pub record Seen (bs : List ℕ) (at : ℕ) (s : Bool) (n m : ℕ) : Type 0 where
   pub after : ℕ
   pub listing : Listing bs at s n m after
   pub ends : tokens_from bs after ≡ []
@@ -129,61 +127,55 @@ module _ (bs : List ℕ) (at : ℕ) where
   unfolding ended_at
   none_more e q = empty (tokens_from bs e) q
 
-  pub lost_line : listed_at bs at ≡ Listed.Bad → Clause.Bad ≡ clause_at bs at
+  pub lost_line : listed_at bs at ≡ None → None ≡ clause_at bs at
   unfolding clause_at exactly
   lost_line h = sym (ap (λ r. surveyed (r >>= λ r. whole r.0 r.1)) (listed_lost bs at h))
 
-  module _ {s n m e : ℕ} (h : listed_at bs at ≡ Listed.Good s n m e) where
+  module _ {q : Measure} {e : ℕ} (h : listed_at bs at ≡ Some (q, e)) where
     closed : {t : Bool} → t ≡ ended_at bs e → clause_at bs at ≡ surveyed (provided t (lits_at bs at))
     unfolding clause_at exactly ended_at
-    closed q = ap (λ r. surveyed (r >>= λ r. whole r.0 r.1)) (listed_told bs at h).list ∙ ap (λ t. surveyed (provided t (lits_at bs at))) (sym q)
+    closed g = ap (λ r. surveyed (r >>= λ r. whole r.0 r.1)) (listed_told bs at h).list ∙ ap (λ t. surveyed (provided t (lits_at bs at))) (sym g)
 
-    pub long_line : {t : Bool} → t ≡ ended_at bs e → t ≡ false → Clause.Bad ≡ clause_at bs at
-    long_line q f = sym (closed (sym f ∙ q))
+    pub long_line : {t : Bool} → t ≡ ended_at bs e → t ≡ false → None ≡ clause_at bs at
+    long_line g f = sym (closed (sym f ∙ g))
 
-    pub good_line : {t : Bool} → t ≡ ended_at bs e → t ≡ true → Clause.Good s n m ≡ clause_at bs at
-    good_line q f =
+    pub good_line : {t : Bool} → t ≡ ended_at bs e → t ≡ true → Some q ≡ clause_at bs at
+    good_line g f =
         let o = listed_told bs at h in
-        ap₂ (λ x y. Clause.Good x y m) o.sign o.count ∙ ap (Clause.Good (signs (lits_at bs at)) (length (lits_at bs at))) o.most
-        ∙ sym (closed (sym f ∙ q))
+        ap₂ (λ x y. Some (record { negative = x; count = y; largest = q.largest })) o.sign o.count
+        ∙ ap (λ z. Some (record { negative = has_minus (lits_at bs at); count = length (lits_at bs at); largest = z })) o.most
+        ∙ sym (closed (sym f ∙ g))
 
-  pub clause_lost : clause_at bs at ≡ Clause.Bad → exactly literal (tokens_from bs at) ≡ none
+  pub clause_lost : clause_at bs at ≡ None → exactly literal (tokens_from bs at) ≡ none
   unfolding clause_at
   clause_lost h = go (exactly literal (tokens_from bs at)) h
     where
-      go : (r : Option Lits) → surveyed r ≡ Clause.Bad → r ≡ none
+      go : (r : Option Lits) → surveyed r ≡ None → r ≡ none
       go none e = refl
       go (some c) e = absurd (let z : ◌≡◌ {A = ℕ} 0 1 = cc in omega arith)
 
-  pub clause_told : {s n m : ℕ} → clause_at bs at ≡ Clause.Good s n m → Seen bs at s n m
-  clause_told {s} {n} {m} h = go (listed_at bs at) refl
+  pub clause_told : {q : Measure} → clause_at bs at ≡ Some q → Seen bs at q.negative q.count q.largest
+  clause_told {q} h = go (listed_at bs at) refl
     where
-      go : (r : Listed) → listed_at bs at ≡ r → Seen bs at s n m
-      go Listed.Bad p = absurd (let k = lost_line p ∙ h in let z : ◌≡◌ {A = ℕ} 0 1 = cc in omega arith)
-      go (Listed.Good t k v e) p = test (ended_at bs e) refl
+      go : (r : Answer (Measure × ℕ)) → listed_at bs at ≡ r → Seen bs at q.negative q.count q.largest
+      go None p = absurd (let k = lost_line p ∙ h in let z : ◌≡◌ {A = ℕ} 0 1 = cc in omega arith)
+      go (Some r) p = test (ended_at bs r.1) refl
         where
-          test : (b : Bool) → ended_at bs e ≡ b → Seen bs at s n m
-          test false q = absurd (let k = long_line p (sym q) refl ∙ h in let z : ◌≡◌ {A = ℕ} 0 1 = cc in omega arith)
-          test true q =
-              let o = listed_told bs at p in
-              let g = good_line p (sym q) refl ∙ h in
-              let a : s ≡ t = cc in
-              let b : n ≡ k = cc in
-              let d : m ≡ v = cc in
-              record {
-                after = e;
-                listing = record { list = o.list; sign = a ∙ o.sign; count = b ∙ o.count; most = d ∙ o.most; positive = o.positive; after = o.after; further = omega (arith, o.further); within = o.within };
-                ends = none_more e q;
-              }
+          test : (b : Bool) → ended_at bs r.1 ≡ b → Seen bs at q.negative q.count q.largest
+          test false f = absurd (let k = long_line p (sym f) refl ∙ h in let z : ◌≡◌ {A = ℕ} 0 1 = cc in omega arith)
+          test true f =
+              let g : Some r.0 ≡ Some q = good_line p (sym f) refl ∙ h in
+              let z : r.0 ≡ q = cc in
+              subst (λ q. Seen bs at q.negative q.count q.largest) z (record { after = r.1; listing = listed_told bs at p; ends = none_more r.1 f })
 
   -- such a line is a list, and the second pass over it meets its zero
-  pub clause_list : {s n m : ℕ} → clause_at bs at ≡ Clause.Good s n m → is_list bs at ≡ true
+  pub clause_list : {q : Measure} → clause_at bs at ≡ Some q → is_list bs at ≡ true
   clause_list h = listing_list bs at (clause_told h).listing
 
-  pub clause_ended : {s n m : ℕ} → clause_at bs at ≡ Clause.Good s n m → {r : Ending} → r ≡ ending_at bs at → r ≡ Ending.Bad → ⊥
-  clause_ended h q e = ending_good bs at q e (clause_list h)
+  pub clause_ended : {q : Measure} → clause_at bs at ≡ Some q → {r : Result (Unit {0}) Rule} → r ≡ ending_at bs at → {k : Rule} → r ≡ Err k → ⊥
+  clause_ended h f e = ending_good bs at f e (clause_list h)
 
-  module _ {s n m : ℕ} (o : Seen bs at s n m) where
+  module _ {s : Bool} {n m : ℕ} (o : Seen bs at s n m) where
     pub exact : exactly literal (tokens_from bs at) ≡ some (lits_at bs at)
     unfolding exactly
     exact = ap (λ r. r >>= λ r. whole r.0 r.1) o.listing.list ∙ ap (whole (lits_at bs at)) o.ends
@@ -192,46 +184,46 @@ module _ (bs : List ℕ) (at : ℕ) where
     pub as_clause : {A : Type 0} (kind : Lits → A) → clause_form kind (tokens_from bs at) ≡ some (kind (lits_at bs at))
     as_clause kind = clause_form_lem kind (tokens_from bs at) ∙ ap (λ r. maybe r none (λ c. some (kind c))) exact
 
-    numbers_if : {t : Bool} → eqb s 0 ≡ t → exactly numeral (tokens_from bs at) ≡ provided t (vars (lits_at bs at))
+    numbers_if : {t : Bool} → not s ≡ t → exactly numeral (tokens_from bs at) ≡ provided t (vars (lits_at bs at))
     numbers_if e =
-        exactly_numerals (tokens_from bs at) ∙ ap (λ r. maybe r none (λ c. provided (eqb (signs c) 0) (vars c))) exact
-        ∙ ap (λ t. provided t (vars (lits_at bs at))) (ap (λ s. eqb s 0) (sym o.listing.sign) ∙ e)
+        exactly_numerals (tokens_from bs at) ∙ ap (λ r. maybe r none (λ c. provided (not (has_minus c)) (vars c))) exact
+        ∙ ap (λ t. provided t (vars (lits_at bs at))) (ap not (sym o.listing.sign) ∙ e)
 
-    pub no_numbers : (s ≡ 0 → ⊥) → exactly numeral (tokens_from bs at) ≡ none
-    no_numbers z = numbers_if (ne_eqb s 0 z)
+    pub no_numbers : s ≡ true → exactly numeral (tokens_from bs at) ≡ none
+    no_numbers z = numbers_if (ap not z)
 
-    pub numbers : s ≡ 0 → exactly numeral (tokens_from bs at) ≡ some (vars (lits_at bs at))
-    numbers z = numbers_if (eq-eqb s 0 z)
+    pub numbers : s ≡ false → exactly numeral (tokens_from bs at) ≡ some (vars (lits_at bs at))
+    numbers z = numbers_if (ap not z)
 
-    pub as_hints : s ≡ 0 → hints_form (tokens_from bs at) ≡ some (hints (vars (lits_at bs at)))
+    pub as_hints : s ≡ false → hints_form (tokens_from bs at) ≡ some (hints (vars (lits_at bs at)))
     as_hints z = hints_form_lem (tokens_from bs at) ∙ ap (λ r. maybe r none (λ ns. some (hints ns))) (numbers z)
 
-    pub not_hints : (s ≡ 0 → ⊥) → hints_form (tokens_from bs at) ≡ none
+    pub not_hints : s ≡ true → hints_form (tokens_from bs at) ≡ none
     not_hints z = hints_form_lem (tokens_from bs at) ∙ ap (λ r. maybe r none (λ ns. some (hints ns))) (no_numbers z)
 
     module _ (quantifier : ℕ → Bound) where
       abbrev bindings : Option (List ℕ) → Option FormulaLine
       bindings r = maybe r none (λ vs. provided (not (is_empty vs)) (binding (map quantifier vs)))
 
-      pub not_binding : (s ≡ 0 → ⊥) → binding_form quantifier (tokens_from bs at) ≡ none
+      pub not_binding : s ≡ true → binding_form quantifier (tokens_from bs at) ≡ none
       not_binding z = binding_form_lem quantifier (tokens_from bs at) ∙ ap bindings (no_numbers z)
 
-      binding_if : {t : Bool} → s ≡ 0 → eqb n 0 ≡ t → binding_form quantifier (tokens_from bs at) ≡ provided (not t) (binding (map quantifier (vars (lits_at bs at))))
+      binding_if : {t : Bool} → s ≡ false → eqb n 0 ≡ t → binding_form quantifier (tokens_from bs at) ≡ provided (not t) (binding (map quantifier (vars (lits_at bs at))))
       binding_if z e =
           binding_form_lem quantifier (tokens_from bs at) ∙ ap bindings (numbers z)
           ∙ ap (λ t. provided (not t) (binding (map quantifier (vars (lits_at bs at)))))
           (empty_length (vars (lits_at bs at)) ∙ ap (λ n. eqb n 0) (length-map (lits_at bs at) var ∙ sym o.listing.count) ∙ e)
 
-      pub empty_binding : s ≡ 0 → n ≡ 0 → binding_form quantifier (tokens_from bs at) ≡ none
+      pub empty_binding : s ≡ false → n ≡ 0 → binding_form quantifier (tokens_from bs at) ≡ none
       empty_binding z y = binding_if z (eq-eqb n 0 y)
 
-      pub as_binding : s ≡ 0 → (n ≡ 0 → ⊥) → binding_form quantifier (tokens_from bs at) ≡ some (binding (map quantifier (vars (lits_at bs at))))
+      pub as_binding : s ≡ false → (n ≡ 0 → ⊥) → binding_form quantifier (tokens_from bs at) ≡ some (binding (map quantifier (vars (lits_at bs at))))
       as_binding z y = binding_if z (ne_eqb n 0 y)
 
   -- a line that is no such line has none of the forms
-  module _ (h : clause_at bs at ≡ Clause.Bad) where
+  module _ (h : clause_at bs at ≡ None) where
     no_list : exactly numeral (tokens_from bs at) ≡ none
-    no_list = exactly_numerals (tokens_from bs at) ∙ ap (λ r. maybe r none (λ c. provided (eqb (signs c) 0) (vars c))) (clause_lost h)
+    no_list = exactly_numerals (tokens_from bs at) ∙ ap (λ r. maybe r none (λ c. provided (not (has_minus c)) (vars c))) (clause_lost h)
 
     pub bad_clause : {A : Type 0} (kind : Lits → A) → clause_form kind (tokens_from bs at) ≡ none
     bad_clause kind = clause_form_lem kind (tokens_from bs at) ∙ ap (λ r. maybe r none (λ c. some (kind c))) (clause_lost h)
@@ -244,29 +236,29 @@ module _ (bs : List ℕ) (at : ℕ) where
 
 -- THE THREE LISTS OF A MAPPING LINE
 pub record Mapped (bs : List ℕ) (at k m p e l i h : ℕ) : Type 0 where
-  pub copies : Listing bs at 0 k p i
-  pub existentials : Listing bs i 0 k e h
-  pub sign : ℕ
+  pub copies : Listing bs at false k p i
+  pub existentials : Listing bs i false k e h
+  pub sign : Bool
   pub annotation : Seen bs h sign m l
   pub form : mapping_form (tokens_from bs at) ≡ some (mapping (vars (lits_at bs at)) (vars (lits_at bs i)) (lits_at bs h))
 
 module _ (bs : List ℕ) where
-  lost : (x : ℕ) → listed_at bs x ≡ Listed.Bad → up_to_zero numeral (tokens_from bs x) ≡ none
+  lost : (x : ℕ) → listed_at bs x ≡ None → up_to_zero numeral (tokens_from bs x) ≡ none
   lost x h = numerals (tokens_from bs x) ∙ ap unsigned (listed_lost bs x h)
 
-  module _ (x : ℕ) {s n m e : ℕ} (o : Listing bs x s n m e) where
-    numbers_up : {t : Bool} → eqb s 0 ≡ t → up_to_zero numeral (tokens_from bs x) ≡ unless_signed t (lits_at bs x) (tokens_from bs e)
+  module _ (x : ℕ) {s : Bool} {n m e : ℕ} (o : Listing bs x s n m e) where
+    numbers_up : {t : Bool} → not s ≡ t → up_to_zero numeral (tokens_from bs x) ≡ unless_signed t (lits_at bs x) (tokens_from bs e)
     numbers_up q =
         numerals (tokens_from bs x) ∙ ap unsigned o.list
-        ∙ ap (λ t. unless_signed t (lits_at bs x) (tokens_from bs e)) (ap (λ s. eqb s 0) (sym o.sign) ∙ q)
+        ∙ ap (λ t. unless_signed t (lits_at bs x) (tokens_from bs e)) (ap not (sym o.sign) ∙ q)
 
-    signed : (s ≡ 0 → ⊥) → up_to_zero numeral (tokens_from bs x) ≡ none
-    signed z = numbers_up (ne_eqb s 0 z)
+    signed : s ≡ true → up_to_zero numeral (tokens_from bs x) ≡ none
+    signed z = numbers_up (ap not z)
 
-    plain : s ≡ 0 → up_to_zero numeral (tokens_from bs x) ≡ some (vars (lits_at bs x), tokens_from bs e)
-    plain z = numbers_up (eq-eqb s 0 z)
+    plain : s ≡ false → up_to_zero numeral (tokens_from bs x) ≡ some (vars (lits_at bs x), tokens_from bs e)
+    plain z = numbers_up (ap not z)
 
-    unsign : s ≡ 0 → Listing bs x 0 n m e
+    unsign : s ≡ false → Listing bs x false n m e
     unsign z = record { list = o.list; sign = sym z ∙ o.sign; count = o.count; most = o.most; positive = o.positive; after = o.after; further = o.further; within = o.within }
 
     many : {k : ℕ} → k ≡ n → Listing bs x s k m e
@@ -282,35 +274,35 @@ module _ (bs : List ℕ) where
     abbrev first : Option (List ℕ × List Token) → Option CertificateLine
     first r = r >>= λ r. second r.0 (up_to_zero numeral r.1)
 
-    pub no_mapping : mapping_form (tokens_from bs at) ≡ none → Mapping.Bad ≡ mapping_at bs at
+    pub no_mapping : mapping_form (tokens_from bs at) ≡ none → None ≡ mapping_at bs at
     unfolding mapping_at
-    no_mapping h = sym (ap (λ r. maybe r Mapping.Bad (mapped bs at)) h)
+    no_mapping h = sym (ap (λ r. maybe r None (mapped bs at)) h)
 
-    pub lost_1 : listed_at bs at ≡ Listed.Bad → mapping_form (tokens_from bs at) ≡ none
+    pub lost_1 : listed_at bs at ≡ None → mapping_form (tokens_from bs at) ≡ none
     lost_1 h = ap first (lost at h)
 
-    module _ {s k p i : ℕ} (a : listed_at bs at ≡ Listed.Good s k p i) where
-      one_list : Listing bs at s k p i
+    module _ {q : Measure} {i : ℕ} (a : listed_at bs at ≡ Some (q, i)) where
+      one_list : Listing bs at q.negative q.count q.largest i
       one_list = listed_told bs at a
 
-      pub signed_1 : (s ≡ 0 → ⊥) → mapping_form (tokens_from bs at) ≡ none
+      pub signed_1 : q.negative ≡ true → mapping_form (tokens_from bs at) ≡ none
       signed_1 z = ap first (signed at one_list z)
 
-      module _ (z : s ≡ 0) where
+      module _ (z : q.negative ≡ false) where
         form_1 : mapping_form (tokens_from bs at) ≡ second (vars (lits_at bs at)) (up_to_zero numeral (tokens_from bs i))
         form_1 = ap first (plain at one_list z)
 
-        pub lost_2 : listed_at bs i ≡ Listed.Bad → mapping_form (tokens_from bs at) ≡ none
+        pub lost_2 : listed_at bs i ≡ None → mapping_form (tokens_from bs at) ≡ none
         lost_2 h = form_1 ∙ ap (second (vars (lits_at bs at))) (lost i h)
 
-        module _ {t j e h : ℕ} (b : listed_at bs i ≡ Listed.Good t j e h) where
-          two_lists : Listing bs i t j e h
+        module _ {t : Measure} {h : ℕ} (b : listed_at bs i ≡ Some (t, h)) where
+          two_lists : Listing bs i t.negative t.count t.largest h
           two_lists = listed_told bs i b
 
-          pub signed_2 : (t ≡ 0 → ⊥) → mapping_form (tokens_from bs at) ≡ none
+          pub signed_2 : t.negative ≡ true → mapping_form (tokens_from bs at) ≡ none
           signed_2 y = form_1 ∙ ap (second (vars (lits_at bs at))) (signed i two_lists y)
 
-          module _ (y : t ≡ 0) where
+          module _ (y : t.negative ≡ false) where
             abbrev with_third : Option Lits → Option CertificateLine
             with_third r = maybe r none (λ c. provided (eqb (length (vars (lits_at bs at))) (length (vars (lits_at bs i)))) (mapping (vars (lits_at bs at)) (vars (lits_at bs i)) c))
 
@@ -320,29 +312,30 @@ module _ (bs : List ℕ) where
                 form_1 ∙ ap (second (vars (lits_at bs at))) (plain i two_lists y)
                 ∙ closing_if (mapping (vars (lits_at bs at)) (vars (lits_at bs i))) (λ c. eqb (length (vars (lits_at bs at))) (length (vars (lits_at bs i)))) (up_to_zero literal (tokens_from bs h))
 
-            pub lost_3 : clause_at bs h ≡ Clause.Bad → mapping_form (tokens_from bs at) ≡ none
-            lost_3 q = form_2 ∙ ap with_third (clause_lost bs h q)
+            pub lost_3 : clause_at bs h ≡ None → mapping_form (tokens_from bs at) ≡ none
+            lost_3 f = form_2 ∙ ap with_third (clause_lost bs h f)
 
-            module _ {v m l : ℕ} (c : clause_at bs h ≡ Clause.Good v m l) where
-              lengths : {x : Bool} → eqb k j ≡ x → mapping_form (tokens_from bs at) ≡ provided x (mapping (vars (lits_at bs at)) (vars (lits_at bs i)) (lits_at bs h))
-              lengths q =
+            module _ {v : Measure} (c : clause_at bs h ≡ Some v) where
+              lengths : {x : Bool} → eqb q.count t.count ≡ x → mapping_form (tokens_from bs at) ≡ provided x (mapping (vars (lits_at bs at)) (vars (lits_at bs i)) (lits_at bs h))
+              lengths f =
                   form_2 ∙ ap with_third (exact bs h (clause_told bs h c))
                   ∙ ap (λ x. provided x (mapping (vars (lits_at bs at)) (vars (lits_at bs i)) (lits_at bs h)))
-                  (ap₂ eqb (length-map (lits_at bs at) var ∙ sym one_list.count) (length-map (lits_at bs i) var ∙ sym two_lists.count) ∙ q)
+                  (ap₂ eqb (length-map (lits_at bs at) var ∙ sym one_list.count) (length-map (lits_at bs i) var ∙ sym two_lists.count) ∙ f)
 
-              pub unequal : (k ≡ j → ⊥) → mapping_form (tokens_from bs at) ≡ none
-              unequal u = lengths (ne_eqb k j u)
+              pub unequal : (q.count ≡ t.count → ⊥) → mapping_form (tokens_from bs at) ≡ none
+              unequal u = lengths (ne_eqb q.count t.count u)
 
-              pub equal : k ≡ j → Mapped bs at k m p e l i h
+              pub equal : q.count ≡ t.count → Mapped bs at q.count v.count q.largest t.largest v.largest i h
               equal u = record {
                 copies = unsign at one_list z;
                 existentials = many i (unsign i two_lists y) u;
-                sign = v;
+                sign = v.negative;
                 annotation = clause_told bs h c;
-                form = lengths (eq-eqb k j u);
+                form = lengths (eq-eqb q.count t.count u);
               }
 
-    pub lists : {k m p e l i h : ℕ} → Mapped bs at k m p e l i h → Mapping.Lists k m p e l i h ≡ mapping_at bs at
+    pub lists : {k m p e l i h : ℕ} → Mapped bs at k m p e l i h
+        → Some (record { copies = k; literals = m; highest_copy = p; highest_existential = e; highest_universal = l; existentials_at = i; literals_at = h }) ≡ mapping_at bs at
     unfolding mapping_at
     lists {k} {m} {p} {e} {l} {i} {h} o =
         let a : k ≡ length (vars (lits_at bs at)) = o.copies.count ∙ sym (length-map (lits_at bs at) var) in
@@ -353,43 +346,43 @@ module _ (bs : List ℕ) where
         let g : l ≡ capped (vars (lits_at bs h)) = o.annotation.listing.most in
         let x : i ≡ place_after (suc (length (vars (lits_at bs at)))) bs at = o.copies.after ∙ ap (λ n. place_after (suc n) bs at) (sym (length-map (lits_at bs at) var)) in
         let y : h ≡ place_after (suc (length (vars (lits_at bs i)))) bs i = o.existentials.after ∙ ap (λ n. place_after (suc n) bs i) (sym (length-map (lits_at bs i) var)) in
-        let r : maybe (mapping_form (tokens_from bs at)) Mapping.Bad (mapped bs at) ≡ mapped bs at (mapping (vars (lits_at bs at)) (vars (lits_at bs i)) (lits_at bs h)) = ap (λ r. maybe r Mapping.Bad (mapped bs at)) o.form in
+        let r : maybe (mapping_form (tokens_from bs at)) None (mapped bs at) ≡ mapped bs at (mapping (vars (lits_at bs at)) (vars (lits_at bs i)) (lits_at bs h)) = ap (λ r. maybe r None (mapped bs at)) o.form in
         cc
 
 -- WHAT THE FIRST PASS TELLS OF A MAPPING LINE
-abbrev pub MapsAs : List ℕ → ℕ → Mapping → Type 0
-MapsAs bs at Mapping.Bad = mapping_form (tokens_from bs at) ≡ none
-MapsAs bs at (Mapping.Lists k m p e l i h) = Mapped bs at k m p e l i h
+abbrev pub MapsAs : List ℕ → ℕ → Answer MappingLists → Type 0
+MapsAs bs at None = mapping_form (tokens_from bs at) ≡ none
+MapsAs bs at (Some q) = Mapped bs at q.copies q.literals q.highest_copy q.highest_existential q.highest_universal q.existentials_at q.literals_at
 
 pub maps : (bs : List ℕ) (at : ℕ) → MapsAs bs at (mapping_at bs at)
 maps bs at = first (listed_at bs at) refl
   where
     bad : mapping_form (tokens_from bs at) ≡ none → MapsAs bs at (mapping_at bs at)
-    bad q = subst (MapsAs bs at) (no_mapping bs at q) q
+    bad f = subst (MapsAs bs at) (no_mapping bs at f) f
 
     good : {k m p e l i h : ℕ} → Mapped bs at k m p e l i h → MapsAs bs at (mapping_at bs at)
     good o = subst (MapsAs bs at) (lists bs at o) o
 
-    first : (r : Listed) → listed_at bs at ≡ r → MapsAs bs at (mapping_at bs at)
-    first Listed.Bad a = bad (lost_1 bs at a)
-    first (Listed.Good s k p i) a = test (eqb s 0) refl
+    first : (r : Answer (Measure × ℕ)) → listed_at bs at ≡ r → MapsAs bs at (mapping_at bs at)
+    first None a = bad (lost_1 bs at a)
+    first (Some q) a = test q.0.negative refl
       where
-        second : s ≡ 0 → (r : Listed) → listed_at bs i ≡ r → MapsAs bs at (mapping_at bs at)
-        second z Listed.Bad b = bad (lost_2 bs at a z b)
-        second z (Listed.Good t j e h) b = tests (eqb t 0) refl
+        second : q.0.negative ≡ false → (r : Answer (Measure × ℕ)) → listed_at bs q.1 ≡ r → MapsAs bs at (mapping_at bs at)
+        second z None b = bad (lost_2 bs at a z b)
+        second z (Some t) b = tests t.0.negative refl
           where
-            third : t ≡ 0 → (r : Clause) → clause_at bs h ≡ r → MapsAs bs at (mapping_at bs at)
-            third y Clause.Bad c = bad (lost_3 bs at a z b y c)
-            third y (Clause.Good v m l) c = last (eqb k j) refl
+            third : t.0.negative ≡ false → (r : Answer Measure) → clause_at bs t.1 ≡ r → MapsAs bs at (mapping_at bs at)
+            third y None c = bad (lost_3 bs at a z b y c)
+            third y (Some v) c = last (eqb q.0.count t.0.count) refl
               where
-                last : (x : Bool) → eqb k j ≡ x → MapsAs bs at (mapping_at bs at)
-                last true u = good (equal bs at a z b y c (eqb-true k j u))
-                last false u = bad (unequal bs at a z b y c (eqb-false k j u))
+                last : (x : Bool) → eqb q.0.count t.0.count ≡ x → MapsAs bs at (mapping_at bs at)
+                last true u = good (equal bs at a z b y c (eqb-true q.0.count t.0.count u))
+                last false u = bad (unequal bs at a z b y c (eqb-false q.0.count t.0.count u))
 
-            tests : (x : Bool) → eqb t 0 ≡ x → MapsAs bs at (mapping_at bs at)
-            tests true u = third (eqb-true t 0 u) (clause_at bs h) refl
-            tests false u = bad (signed_2 bs at a z b (eqb-false t 0 u))
+            tests : (x : Bool) → t.0.negative ≡ x → MapsAs bs at (mapping_at bs at)
+            tests false u = third u (clause_at bs t.1) refl
+            tests true u = bad (signed_2 bs at a z b u)
 
-        test : (x : Bool) → eqb s 0 ≡ x → MapsAs bs at (mapping_at bs at)
-        test true u = second (eqb-true s 0 u) (listed_at bs i) refl
-        test false u = bad (signed_1 bs at a (eqb-false s 0 u))
+        test : (x : Bool) → q.0.negative ≡ x → MapsAs bs at (mapping_at bs at)
+        test false u = second u (listed_at bs q.1) refl
+        test true u = bad (signed_1 bs at a u)

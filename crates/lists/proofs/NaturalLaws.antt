@@ -10,28 +10,27 @@ use lib.Dec.{eqb}
 use lib.ListN.{length}
 use borrow.Author.Tests.{eq-eqb, ne_eqb}
 use Rattle.lines.specs.Lines.{Token, number, minus, word}
-use Rattle.lines.specs.declared.Literal.{Literal}
+use Rattle.std.specs.Prelude.{Option as Answer, None, Some}
 use Rattle.lines.specs.Scan.{cap, tokens_from, end_at, literal_at}
 use Rattle.lines.proofs.Words.{Told, Coded, literal_told, literal_lost}
 use Rattle.rules.specs.Forms.{numeral, one, up_to_zero, ahead}
-use Rattle.lists.specs.declared.Natural.{Natural}
 use Rattle.lists.specs.Lists.{natural_of, natural_at}
 use Rattle.lists.proofs.ListLaws.{place_read, upto_zero, upto_more}
 
 -- WHAT THE CODE TESTS
 module _ (bs : List ℕ) (at : ℕ) where
-  pub natural_none : literal_at bs at ≡ Literal.Bad → Natural.Bad ≡ natural_at bs at
+  pub natural_none : literal_at bs at ≡ None → None ≡ natural_at bs at
   unfolding natural_at
   natural_none p = sym (ap natural_of p)
 
-  module _ {x e : ℕ} (p : literal_at bs at ≡ Literal.Of x e) where
-    pub natural_even : x % 2 ≡ 0 → Natural.Of (x / 2) e ≡ natural_at bs at
+  module _ {x e : ℕ} (p : literal_at bs at ≡ Some (x, e)) where
+    pub natural_even : x % 2 ≡ 0 → Some (x / 2, e) ≡ natural_at bs at
     unfolding natural_at
-    natural_even h = sym (ap natural_of p ∙ ap (λ t. cond t (Natural.Of (x / 2) e) Natural.Bad) (eq-eqb (x % 2) 0 h))
+    natural_even h = sym (ap natural_of p ∙ ap (λ t. cond t (Some (x / 2, e)) None) (eq-eqb (x % 2) 0 h))
 
-    pub natural_odd : (x % 2 ≡ 0 → ⊥) → Natural.Bad ≡ natural_at bs at
+    pub natural_odd : (x % 2 ≡ 0 → ⊥) → None ≡ natural_at bs at
     unfolding natural_at
-    natural_odd h = sym (ap natural_of p ∙ ap (λ t. cond t (Natural.Of (x / 2) e) Natural.Bad) (ne_eqb (x % 2) 0 h))
+    natural_odd h = sym (ap natural_of p ∙ ap (λ t. cond t (Some (x / 2, e)) None) (ne_eqb (x % 2) 0 h))
 
 -- WHAT THE TOKENS ARE: the number as written
 pub record Numeral (bs : List ℕ) (at n e : ℕ) : Type 0 where
@@ -42,41 +41,41 @@ pub record Numeral (bs : List ℕ) (at n e : ℕ) : Type 0 where
   pub further : at < e
   pub within : e ≤ length bs
 
-abbrev pub NaturalTold : List ℕ → ℕ → Natural → Type 0
-NaturalTold bs at (Natural.Of n e) = Numeral bs at n e
-NaturalTold bs at Natural.Bad = (one numeral (tokens_from bs at) ≡ none) × (up_to_zero numeral (tokens_from bs at) ≡ none)
+abbrev pub NaturalTold : List ℕ → ℕ → Answer (ℕ × ℕ) → Type 0
+NaturalTold bs at (Some r) = Numeral bs at r.0 r.1
+NaturalTold bs at None = (one numeral (tokens_from bs at) ≡ none) × (up_to_zero numeral (tokens_from bs at) ≡ none)
 
 module _ (bs : List ℕ) (at : ℕ) where
-  no_number : literal_at bs at ≡ Literal.Bad → NaturalTold bs at Natural.Bad
+  no_number : literal_at bs at ≡ None → NaturalTold bs at None
   no_number p = go (literal_lost bs at p)
     where
-      go : (tokens_from bs at ≡ []) ⊎ ((w : List ℕ) × (ts : List Token) × (tokens_from bs at ≡ word w ∷ ts)) → NaturalTold bs at Natural.Bad
+      go : (tokens_from bs at ≡ []) ⊎ ((w : List ℕ) × (ts : List Token) × (tokens_from bs at ≡ word w ∷ ts)) → NaturalTold bs at None
       go (inl e) = (ap (one numeral) e, ap (up_to_zero numeral) e)
       go (inr w) = (ap (one numeral) w.2, ap (up_to_zero numeral) w.2)
 
-  number_read : {x e : ℕ} → literal_at bs at ≡ Literal.Of x e → NaturalTold bs at (natural_of (Literal.Of x e))
+  number_read : {x e : ℕ} → literal_at bs at ≡ Some (x, e) → NaturalTold bs at (natural_of (Some (x, e)))
   number_read {x} {e} p = go t.token t.code t.first
     where
       t : Told bs at x e
       t = literal_told bs at p
 
-      by : {b : Bool} → eqb (x % 2) 0 ≡ b → NaturalTold bs at (cond b (Natural.Of (x / 2) e) Natural.Bad) → NaturalTold bs at (natural_of (Literal.Of x e))
-      by q h = subst (λ b. NaturalTold bs at (cond b (Natural.Of (x / 2) e) Natural.Bad)) (sym q) h
+      by : {b : Bool} → eqb (x % 2) 0 ≡ b → NaturalTold bs at (cond b (Some (x / 2, e)) None) → NaturalTold bs at (natural_of (Some (x, e)))
+      by q h = subst (λ b. NaturalTold bs at (cond b (Some (x / 2, e)) None)) (sym q) h
 
-      go : (t : Token) → Coded t x → tokens_from bs at ≡ t ∷ tokens_from bs e → NaturalTold bs at (natural_of (Literal.Of x e))
+      go : (t : Token) → Coded t x → tokens_from bs at ≡ t ∷ tokens_from bs e → NaturalTold bs at (natural_of (Some (x, e)))
       go (number n) c f =
           by (eq-eqb (x % 2) 0 (omega (arith, c)))
           (record { value = n; first = f; capped = omega (arith, c); place = place_read bs at p; further = t.further; within = t.within })
       go (minus n) c f = by (ne_eqb (x % 2) 0 (λ h. omega (arith, c.0, h))) (ap (one numeral) f, ap (up_to_zero numeral) f)
       go (word w) c f = absurd c
 
-  pub natural_told : {r : Natural} → natural_at bs at ≡ r → NaturalTold bs at r
+  pub natural_told : {r : Answer (ℕ × ℕ)} → natural_at bs at ≡ r → NaturalTold bs at r
   unfolding natural_at
   natural_told e = subst (NaturalTold bs at) e (go (literal_at bs at) refl)
     where
-      go : (r : Literal) → literal_at bs at ≡ r → NaturalTold bs at (natural_of r)
-      go Literal.Bad p = no_number p
-      go (Literal.Of x e) p = number_read p
+      go : (r : Answer (ℕ × ℕ)) → literal_at bs at ≡ r → NaturalTold bs at (natural_of r)
+      go None p = no_number p
+      go (Some r) p = number_read p
 
   -- as one number, and as the first of a list up to a zero
   module _ {n e : ℕ} (t : Numeral bs at n e) where

@@ -1,6 +1,6 @@
 -- Laws of the second pass, and of lists in a table. Assumes nothing.
 use mathlib.Core.Path.{◌≡◌, refl, ap, ap₂, sym, ◌∙◌, subst}
-use mathlib.Core.Bool.{Bool, true, false, ◌&&◌, cond}
+use mathlib.Core.Bool.{Bool, true, false, true≢false, ◌&&◌, cond}
 use mathlib.Core.List.{List, [], ◌∷◌, ◌++◌, map, append_assoc, append-nil}
 use mathlib.Core.Logic.{⊎_elim}
 use mathlib.Core.Option.{some}
@@ -15,7 +15,7 @@ use lib.Dec.{eqb, leb}
 use borrow.Author.Tests.{eq-eqb, ne_eqb, eqb-true, leb-true, leb-false}
 use Rattle.lines.specs.Lists.{all}
 use Rattle.lines.specs.Lines.{Token, number, minus, word}
-use Rattle.lines.specs.declared.Literal.{Literal}
+use Rattle.std.specs.Prelude.{None, Some, Result, Ok, Err}
 use Rattle.lines.specs.Scan.{cap, tokens_from, literal_at}
 use Rattle.lines.proofs.Words.{Told, Coded, literal_told, literal_lost}
 use Rattle.cells.specs.Cells.{num, cells_of, codes_of, up_to, list_at, Kept}
@@ -25,8 +25,9 @@ use Rattle.rules.specs.Literals.{pos, neg, Lits, vars, var}
 use Rattle.rules.specs.Codes.{code_of}
 use Rattle.rules.specs.Forms.{up_to_zero, literal}
 use Rattle.rules.proofs.Kit.{and_l, and_r}
-use Rattle.lists.specs.declared.Ending.{Ending}
-use Rattle.lists.specs.Lists.{signs, lits_at, is_list}
+use Rattle.rules.specs.declared.Rule.{Rule}
+use Rattle.rules.specs.declared.Rule.TheVariants.{Malformed}
+use Rattle.lists.specs.Lists.{has_minus, lits_at, is_list}
 use Rattle.lists.specs.Stores.{codes_in, codes_at, ending_at, puts, written, flat, place_of, in_range}
 use Rattle.lists.proofs.ListLaws.{upto_zero, upto_more, pair_parts, ahead_some, sign_low, Listing, listed_range, is_lost, is_end, is_more}
 
@@ -64,11 +65,11 @@ cells_puts t k (x ∷ xs) = cells_puts (set t k (int x)) (suc k) xs ∙ ap (λ l
 
 -- THE CODES OF A LINE
 module _ (bs : List ℕ) (i : ℕ) where
-  pub codes_lost : literal_at bs i ≡ Literal.Bad → codes_at bs i ≡ []
+  pub codes_lost : literal_at bs i ≡ None → codes_at bs i ≡ []
   unfolding codes_at codes_in
   codes_lost p = ⊎_elim (λ e. ap codes_in e) (λ w. ap codes_in w.2) (literal_lost bs i p)
 
-  module _ {x e : ℕ} (p : literal_at bs i ≡ Literal.Of x e) where
+  module _ {x e : ℕ} (p : literal_at bs i ≡ Some (x, e)) where
     told : Told bs i x e
     told = literal_told bs i p
 
@@ -107,47 +108,47 @@ pub record Storing (bs : List ℕ) (at : ℕ) (m₀ : List ℤ) (from i k : ℕ)
   pub text : puts m k (codes_at bs i) ≡ puts m₀ from (codes_at bs at)
   pub list : is_list bs i ≡ is_list bs at
 
-pub storing_start : {bs : List ℕ} {at : ℕ} {m₀ : List ℤ} {from : ℕ} → Storing bs at m₀ from at from m₀
-storing_start = record { long = refl; text = refl; list = refl }
+pub storing_start : {bs : List ℕ} {at i : ℕ} {m₀ : List ℤ} {from : ℕ} → i ≡ at → Storing bs at m₀ from i from m₀
+storing_start {bs} {at} {i} {m₀} {from} e = record { long = refl; text = ap (λ i. puts m₀ from (codes_at bs i)) e; list = ap (is_list bs) e }
 
--- from the next place, or from one beyond the end, where nothing is stored
-puts_after : (t : List ℤ) (k k' : ℕ) (xs : List ℕ) → k' ≡ min (k + 1) (max k (length t)) → puts t k' xs ≡ puts t (k + 1) xs
-puts_after t k k' xs e = go (leb (length t) k) refl
+-- from the next place; one that cannot be counted is beyond the end, where nothing is stored
+puts_after : (t : List ℤ) (k k' most : ℕ) (xs : List ℕ) → length t ≤ most → k' ≡ min (k + 1) most → puts t k' xs ≡ puts t (k + 1) xs
+puts_after t k k' most xs w e = go (leb (k + 1) most) refl
   where
-    go : (b : Bool) → leb (length t) k ≡ b → puts t k' xs ≡ puts t (k + 1) xs
-    go true q = let h = leb-true (length t) k q in puts_past t k' xs (omega arith) ∙ sym (puts_past t (k + 1) xs (omega arith))
-    go false q = let h = leb-false (length t) k q in let z : k' ≡ k + 1 = omega arith in ap (λ n. puts t n xs) z
+    go : (b : Bool) → leb (k + 1) most ≡ b → puts t k' xs ≡ puts t (k + 1) xs
+    go true q = let h = leb-true (k + 1) most q in let z : k' ≡ k + 1 = omega arith in ap (λ n. puts t n xs) z
+    go false q = let h = leb-false (k + 1) most q in puts_past t k' xs (omega arith) ∙ sym (puts_past t (k + 1) xs (omega arith))
 
 module _ {bs : List ℕ} {at : ℕ} {m₀ : List ℤ} {from i k : ℕ} {m : List ℤ} (s : Storing bs at m₀ from i k m) where
-  pub storing_lost : literal_at bs i ≡ Literal.Bad → (m ≡ puts m₀ from (codes_at bs at)) × (Ending.Bad ≡ ending_at bs at)
+  pub storing_lost : literal_at bs i ≡ None → (m ≡ puts m₀ from (codes_at bs at)) × (Err Malformed ≡ ending_at bs at)
   unfolding puts ending_at
   storing_lost p =
-      (ap (puts m k) (sym (codes_lost bs i p)) ∙ s.text, sym (ap (λ b. cond b Ending.Zero Ending.Bad) (sym s.list ∙ is_lost bs i p)))
+      (ap (puts m k) (sym (codes_lost bs i p)) ∙ s.text, sym (ap (λ b. cond b (Ok tt) (Err Malformed)) (sym s.list ∙ is_lost bs i p)))
 
-  module _ {x e : ℕ} (p : literal_at bs i ≡ Literal.Of x e) {u : List ℤ} (f : u ≡ set m k (int (x % 2147483648))) where
+  module _ {x e : ℕ} (p : literal_at bs i ≡ Some (x, e)) {u : List ℤ} (f : u ≡ set m k (int (x % 2147483648))) where
     is_set : u ≡ set m k (int x)
     is_set = f ∙ ap (λ y. set m k (int y)) (code_small bs i p)
 
-    pub storing_end : x ≡ 0 → (u ≡ puts m₀ from (codes_at bs at)) × (Ending.Zero ≡ ending_at bs at)
+    pub storing_end : x ≡ 0 → (u ≡ puts m₀ from (codes_at bs at)) × (Ok tt ≡ ending_at bs at)
     unfolding puts ending_at
     storing_end z = (
       is_set ∙ ap (puts m k) (sym (codes_end bs i p z)) ∙ s.text,
-      sym (ap (λ b. cond b Ending.Zero Ending.Bad) (sym s.list ∙ is_end bs i p z)),
+      sym (ap (λ b. cond b (Ok tt) (Err Malformed)) (sym s.list ∙ is_end bs i p z)),
     )
 
-    pub storing_more : (x ≡ 0 → ⊥) → {k' : ℕ} → k' ≡ min (k + 1) (max k (length u)) → Storing bs at m₀ from e k' u
-    storing_more z h = record {
-      long = ap length f ∙ length-set m k (int (x % 2147483648)) ∙ s.long;
-      text = puts_after u k _ (codes_at bs e) h ∙ ap (λ v. puts v (k + 1) (codes_at bs e)) is_set ∙ sym (puts_more m k x (codes_at bs e))
+    pub storing_more : (x ≡ 0 → ⊥) → {j k' most : ℕ} → j ≡ e → length m₀ ≤ most → k' ≡ min (k + 1) most → Storing bs at m₀ from j k' u
+    storing_more z {j} {k'} q w h = let n = ap length f ∙ length-set m k (int (x % 2147483648)) ∙ s.long in record {
+      long = n;
+      text = ap (λ i. puts u k' (codes_at bs i)) q ∙ puts_after u k _ _ (codes_at bs e) (omega arith) h ∙ ap (λ v. puts v (k + 1) (codes_at bs e)) is_set ∙ sym (puts_more m k x (codes_at bs e))
           ∙ ap (puts m k) (sym (codes_more bs i p z)) ∙ s.text;
-      list = sym (is_more bs i p z) ∙ s.list;
+      list = ap (is_list bs) q ∙ sym (is_more bs i p z) ∙ s.list;
     }
 
 -- where a list stands, the second pass meets its zero
-pub ending_good : (bs : List ℕ) (at : ℕ) {r : Ending} → r ≡ ending_at bs at → r ≡ Ending.Bad → is_list bs at ≡ true → ⊥
+pub ending_good : (bs : List ℕ) (at : ℕ) {r : Result (Unit {0}) Rule} → r ≡ ending_at bs at → {k : Rule} → r ≡ Err k → is_list bs at ≡ true → ⊥
 unfolding ending_at
 ending_good bs at q b l =
-    let e = sym (ap (λ t. cond t Ending.Zero Ending.Bad) l) ∙ sym q ∙ b in let z : ◌≡◌ {A = ℕ} 0 1 = cc in omega arith
+    let e = sym (ap (λ t. cond t (Ok tt) (Err Malformed)) l) ∙ sym q ∙ b in let z : ◌≡◌ {A = ℕ} 0 1 = cc in omega arith
 
 -- A LIST AS IT IS STORED
 codes_written : (ts : List Token) (c : Lits) (rest : List Token) → up_to_zero literal ts ≡ some (c, rest) → greatest (vars c) ≤ cap → codes_in ts ≡ written c
@@ -173,7 +174,7 @@ codes_written (minus n ∷ ts) c rest e h =
     ap₂ (λ a l. a ∷ l) x (codes_written ts k.0 rest k.2 (omega arith)) ∙ ap written (sym k.1)
 codes_written (word w ∷ ts) c rest e h = absurd (let z : ◌≡◌ {A = ℕ} 0 1 = cc in omega arith)
 
-pub codes_listed : (bs : List ℕ) (at : ℕ) {s n m e : ℕ} → Listing bs at s n m e → m < cap → codes_at bs at ≡ written (lits_at bs at)
+pub codes_listed : (bs : List ℕ) (at : ℕ) {s : Bool} {n m e : ℕ} → Listing bs at s n m e → m < cap → codes_at bs at ≡ written (lits_at bs at)
 unfolding codes_at
 codes_listed bs at {s} {n} {m} {e} o h = let k = o.most in codes_written (tokens_from bs at) (lits_at bs at) (tokens_from bs e) o.list (omega arith)
 
@@ -237,7 +238,7 @@ pub record Stored (t u : List ℤ) (from : ℕ) (c : Lits) : Type 0 where
   pub before : take from u ≡ take from t
   pub kept : Kept (from + (length c + 1)) t u
 
-pub list_in_table : {bs : List ℕ} {at s n m e : ℕ} (o : Listing bs at s n m e) (t u : List ℤ) (from : ℕ) → m ≤ 16384 → from + n < length t
+pub list_in_table : {bs : List ℕ} {at : ℕ} {s : Bool} {n m e : ℕ} (o : Listing bs at s n m e) (t u : List ℤ) (from : ℕ) → m ≤ 16384 → from + n < length t
     → u ≡ puts t from (codes_at bs at) → Stored t u from (lits_at bs at)
 list_in_table {bs} {at} {s} {n} {m} {e} o t u from h l q =
     let i = o.count in
@@ -251,11 +252,11 @@ list_in_table {bs} {at} {s} {n} {m} {e} o t u from h l q =
       kept = subst (Kept (from + (length (lits_at bs at) + 1)) t) (sym p) (subst (λ k. Kept k t (puts t from (written (lits_at bs at)))) j (kept_puts t from (written (lits_at bs at))));
     }
 
--- the codes of a list without signs
-pub plain_codes : (c : Lits) → signs c ≡ 0 → map code_of c ≡ map (λ v. 2 * v) (vars c)
+-- the codes of a list without has_minus
+pub plain_codes : (c : Lits) → has_minus c ≡ false → map code_of c ≡ map (λ v. 2 * v) (vars c)
 plain_codes [] h = refl
-plain_codes (pos n ∷ c) h = let e : 2 * n + 0 ≡ 2 * n = omega arith in ap₂ (λ a l. a ∷ l) e (plain_codes c (omega arith))
-plain_codes (neg n ∷ c) h = absurd (let k = h in omega arith)
+plain_codes (pos n ∷ c) h = let e : 2 * n + 0 ≡ 2 * n = omega arith in ap₂ (λ a l. a ∷ l) e (plain_codes c h)
+plain_codes (neg n ∷ c) h = absurd (true≢false h)
 
 -- A LIST BEFORE THE PLACE IS KEPT, with its end mark
 upto_take : (n : ℕ) (l m : List ℕ) → take n m ≡ take n l → length (up_to l) < n → up_to m ≡ up_to l

@@ -1,12 +1,13 @@
 -- Lists in a table: what the second pass stores, and the clauses of a table one after the other. Assumes nothing.
-use Rattle.std.specs.Prelude.{Bool, ◌&&◌, cond, List, [], ◌∷◌, ◌++◌, map, ℕ, zero, suc, ◌+◌, ◌*◌, min, eqb, leb, length, ℤ, pos}
+use Rattle.std.specs.Prelude.{Result, Ok, Err, Bool, ◌&&◌, cond, List, [], ◌∷◌, ◌++◌, map, ℕ, zero, suc, ◌+◌, ◌*◌, min, eqb, leb, length, ℤ, pos}
 use Rattle.std.proofs.lemmas.List.Edits.{sets}
 use Rattle.lines.specs.Lists.{all}
 use Rattle.lines.specs.Lines.{Token, number, minus, word}
 use Rattle.lines.specs.Scan.{cap, tokens_from}
 use Rattle.rules.specs.Literals.{Lits}
 use Rattle.rules.specs.Codes.{code_of}
-use Rattle.lists.specs.declared.Ending.{Ending}
+use Rattle.rules.specs.declared.Rule.{Rule}
+use Rattle.rules.specs.declared.Rule.TheVariants.{Malformed}
 use Rattle.lists.specs.Lists.{is_list}
 
 -- the codes of the tokens up to and with the zero, or up to a token that is no literal
@@ -19,9 +20,9 @@ codes_in (word w ∷ ts) = []
 unfoldable pub codes_at : List ℕ → ℕ → List ℕ
 codes_at bs at = codes_in (tokens_from bs at)
 
--- what ends a second pass: the zero, or a token that is no literal
-unfoldable pub ending_at : List ℕ → ℕ → Ending
-ending_at bs at = cond (is_list bs at) Ending.Zero Ending.Bad
+-- what ends a second pass: the zero, or a token that is no literal, which is malformed
+unfoldable pub ending_at : List ℕ → ℕ → Result (Unit {0}) Rule
+ending_at bs at = cond (is_list bs at) (Ok tt) (Err Malformed)
 
 -- numbers stored from a place on, as far as the table goes
 unfoldable pub puts : List ℤ → ℕ → List ℕ → List ℤ

@@ -1,144 +1,132 @@
 // The numbers and the lists of a line, literals up to a zero: a first pass that writes nothing, and a second that stores a list in a table.
 #![tactic(auto)]
 
-ghost use Rattle.std.specs.Prelude.{◌≡◌, ◌+◌, min, max};
-ghost use Rattle.lists.specs.Lists.{natural_at, listed_at, clause_at, mapping_at};
+ghost use Rattle.std.specs.Prelude.{◌≡◌, [], ◌+◌, ◌<◌, ◌^◌};
+ghost use Rattle.lists.specs.Lists.{measure, natural_at, listed_at, clause_at, mapping_at};
+ghost use Rattle.lists.specs.Measures.{with_code};
 ghost use Rattle.lists.specs.Stores.{codes_at, ending_at, puts};
 
-use cells::larger;
-use lines::Literal;
+use lines::Literals;
+use rules::Rule;
 
 // The next word as a number without a sign, at most the cap, and the place after it.
-#[derive(Clone, Copy)]
-pub enum Natural {
-    Of(u32, usize),
-    Bad,
-}
-
-pub fn natural_at(line: &[u8], at: usize) -> Natural
+pub fn natural_at(line: &[u8], at: usize) -> Option<(u32, usize)>
     ensures { result ≡ natural_at line.now at }
 {
-    let Literal::Of(x, e) = lines::literal_at(line, at) else {
-        return Natural::Bad;
-    };
+    let (x, e) = lines::literal_at(line, at)?;
     if x % 2 == 0 {
-        return Natural::Of(x / 2, e);
+        return Some((x / 2, e));
     }
-    Natural::Bad
+    None
 }
 
-// Literals up to a zero: whether one is negative (0 or 1), how many there are, the largest variable, at most the cap, and the place
-// after the zero.
+// What the first pass says of literals: whether one is negative, how many there are, and the largest variable, at most the cap.
 #[derive(Clone, Copy)]
-pub enum Listed {
-    Good(u32, usize, u32, usize),
-    Bad,
+pub struct Measure {
+    pub negative: bool,
+    pub count: usize,
+    pub largest: u32,
 }
 
-pub fn list_at(line: &[u8], at: usize) -> Listed
+impl Measure {
+    // Of no literal.
+    pub fn none() -> Measure
+        ensures { result ≡ measure [] }
+    {
+        Measure {
+            negative: false,
+            count: 0,
+            largest: 0,
+        }
+    }
+
+    // With one literal more, by its code.
+    pub fn with(self, x: u32) -> Measure
+        ensures { self.count + 1 < 2 ^ 64 → result ≡ with_code self x }
+    {
+        Measure {
+            negative: self.negative | (x % 2 == 1),
+            count: self.count.wrapping_add(1),
+            largest: self.largest.max(x / 2),
+        }
+    }
+}
+
+// Literals up to a zero, and the place after it.
+pub fn list_at(line: &[u8], at: usize) -> Option<(Measure, usize)>
     ensures { result ≡ listed_at line.now at }
 {
-    let mut i = at;
-    let mut s: u32 = 0;
-    let mut n: usize = 0;
-    let mut m: u32 = 0;
-    loop {
-        let Literal::Of(x, e) = lines::literal_at(line, i) else {
-            return Listed::Bad;
-        };
+    let mut measure = Measure::none();
+    for (x, e) in Literals::new(line, at) {
         if x == 0 {
-            return Listed::Good(s, n, m, e);
+            return Some((measure, e));
         }
-        s = larger(s, x % 2);
-        m = larger(m, x / 2);
-        n += 1;
-        i = e;
+        measure = measure.with(x);
     }
+    None
 }
 
-// Literals and a zero that ends the line: as above, without the place.
-#[derive(Clone, Copy)]
-pub enum Clause {
-    Good(u32, usize, u32),
-    Bad,
-}
-
-pub fn clause_at(line: &[u8], at: usize) -> Clause
+// Literals and a zero that ends the line.
+pub fn clause_at(line: &[u8], at: usize) -> Option<Measure>
     ensures { result ≡ clause_at line.now at }
 {
-    let Listed::Good(s, n, m, e) = list_at(line, at) else {
-        return Clause::Bad;
-    };
+    let (measure, e) = list_at(line, at)?;
     if lines::ended(line, e) {
-        return Clause::Good(s, n, m);
+        return Some(measure);
     }
-    Clause::Bad
+    None
 }
 
-// The three lists of a mapping line: their lengths k, k and m, their largest variables, and where the second and the third start.
+// The three lists of a mapping line: their lengths, the first two equal, their largest variables, and where the second and the third start.
 #[derive(Clone, Copy)]
-pub enum Mapping {
-    Lists(usize, usize, u32, u32, u32, usize, usize),
-    Bad,
+pub struct MappingLists {
+    pub copies: usize,
+    pub literals: usize,
+    pub highest_copy: u32,
+    pub highest_existential: u32,
+    pub highest_universal: u32,
+    pub existentials_at: usize,
+    pub literals_at: usize,
 }
 
-pub fn mapping_at(line: &[u8], at: usize) -> Mapping
+pub fn mapping_at(line: &[u8], at: usize) -> Option<MappingLists>
     ensures { result ≡ mapping_at line.now at }
 {
-    let Listed::Good(s, k, p, i) = list_at(line, at) else {
-        return Mapping::Bad;
-    };
-    if s != 0 {
-        return Mapping::Bad;
+    let (copies, i) = list_at(line, at)?;
+    if copies.negative {
+        return None;
     }
-    let Listed::Good(t, j, e, h) = list_at(line, i) else {
-        return Mapping::Bad;
-    };
-    if t != 0 {
-        return Mapping::Bad;
+    let (existentials, h) = list_at(line, i)?;
+    if existentials.negative {
+        return None;
     }
-    let Clause::Good(_, m, l) = clause_at(line, h) else {
-        return Mapping::Bad;
-    };
-    if k != j {
-        return Mapping::Bad;
+    let literals = clause_at(line, h)?;
+    if copies.count != existentials.count {
+        return None;
     }
-    Mapping::Lists(k, m, p, e, l, i, h)
-}
-
-// What ends a second pass: the list's zero, or a token that is no literal.
-#[derive(Clone, Copy)]
-pub enum Ending {
-    Zero,
-    Bad,
-}
-
-// The place after k, as far as a table of n places goes.
-fn place_after(k: usize, n: usize) -> usize
-    ensures { result ≡ min (k + 1) (max k n) }
-{
-    if k < n {
-        return k + 1;
-    }
-    k
+    Some(MappingLists {
+        copies: copies.count,
+        literals: literals.count,
+        highest_copy: copies.largest,
+        highest_existential: existentials.largest,
+        highest_universal: literals.largest,
+        existentials_at: i,
+        literals_at: h,
+    })
 }
 
 // The second pass: the codes of the literals and of the zero after them, from place `from` on, as far as the table goes.
-pub fn store_list(line: &[u8], at: usize, table: &mut [i32], from: usize) -> Ending
+pub fn store_list(line: &[u8], at: usize, table: &mut [i32], from: usize) -> Result<(), Rule>
     ensures { (table.new ≡ puts table.old from (codes_at line.now at))
         × (result ≡ ending_at line.now at) }
 {
-    let mut i = at;
     let mut k = from;
-    loop {
-        let Literal::Of(x, e) = lines::literal_at(line, i) else {
-            return Ending::Bad;
-        };
+    for (x, _) in Literals::new(line, at) {
         cells::put(table, k, x);
         if x == 0 {
-            return Ending::Zero;
+            return Ok(());
         }
-        k = place_after(k, table.len());
-        i = e;
+        k = k.saturating_add(1);
     }
+    Err(Rule::Malformed)
 }

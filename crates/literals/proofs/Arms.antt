@@ -3,14 +3,11 @@ use mathlib.Core.Path.{◌≡◌, refl, ap, sym, ◌∙◌}
 use mathlib.Core.Bool.{Bool, true, false, ◌&&◌}
 use mathlib.Core.List.{List, [], ◌∷◌}
 use Prim.Native.Nat.{ℕ, ◌/◌}
-use lib.IntN.{ℤ}
 use Rattle.lines.specs.Lists.{all}
-use Rattle.cells.specs.Cells.{list_at, code_at}
 use Rattle.rules.specs.Basics.{is_in}
 use Rattle.prefix.specs.Prefix.{is_existential}
 use Rattle.copies.specs.Copies.{image_of, images_of}
 use Rattle.literals.specs.Literals.{in_clause, first_in, in_line, literals_fit}
-use Rattle.copies.proofs.Walks.{stop, more}
 use Rattle.copies.proofs.Choices.{yes, no}
 
 -- THE LITERALS
@@ -24,14 +21,14 @@ module _ (w st : ℕ → ℕ) (cs : List ℕ) (x : ℕ) {v : ℕ} (s : v ≡ st 
   unfolding in_clause
   clause_no p = no (is_existential w (st (x / 2))) (is_in cs (image_of st x)) false (ap (is_existential w) (sym s) ∙ p) refl
 
-module _ (w st : ℕ → ℕ) (cs : List ℕ) (t : List ℤ) (l : ℕ) {x : ℕ} (e : x ≡ code_at t l) where
-  pub first_none : x ≡ 0 → true ≡ first_in w st cs (list_at t l)
+module _ (w st : ℕ → ℕ) (cs : List ℕ) {ls : List ℕ} where
+  pub first_none : ls ≡ [] → true ≡ first_in w st cs ls
   unfolding first_in
-  first_none z = sym (ap (first_in w st cs) (stop t l e z))
+  first_none e = sym (ap (first_in w st cs) e)
 
-  pub first_some : {r : Bool} → (x ≡ 0 → ⊥) → r ≡ in_clause w st cs x → r ≡ first_in w st cs (list_at t l)
+  pub first_some : {x : ℕ} {rest : List ℕ} → ls ≡ x ∷ rest → {r : Bool} → r ≡ in_clause w st cs x → r ≡ first_in w st cs ls
   unfolding first_in
-  first_some z q = q ∙ sym (ap (first_in w st cs) (more t l e z))
+  first_some e q = q ∙ sym (ap (first_in w st cs) e)
 
 module _ (w st : ℕ → ℕ) (ls : List ℕ) (y : ℕ) where
   pub line_yes : {r : Bool} → is_existential w (y / 2) ≡ true → r ≡ is_in (images_of st ls) y → r ≡ in_line w st ls y

@@ -1,22 +1,20 @@
 -- Laws of the tests over marks: each turn of the code, and what the tests say of the line and the clause. Assumes nothing.
 use mathlib.Core.Path.{◌≡◌, refl, ap, sym, ◌∙◌, fun_ext}
-use mathlib.Core.Bool.{Bool, true, false, cond, not, ◌&&◌, ◌||◌, and-true, or-true, false≢true}
+use mathlib.Core.Bool.{Bool, true, false, cond, not, ◌&&◌, ◌||◌, or-true, false≢true}
 use mathlib.Core.List.{List, [], ◌∷◌}
-use Prim.Native.Nat.{ℕ, zero, suc, ◌+◌, ◌/◌, ◌<◌, ◌≤◌}
+use Prim.Native.Nat.{ℕ, ◌/◌, ◌<◌, ◌≤◌}
 use native.Mathlib.Omega.{arith}
-use lib.IntN.{ℤ}
 use lib.Dec.{eqb, ltb}
 use lib.ListN.{length, get_or, set, length-set, get_or-eq_default}
 use lib.Seq.{get_or-set_same, get_or-set_other, set_out}
 use borrow.Author.Tests.{eqb-true, eqb-false, eq-eqb, ne_eqb, lt-ltb, le-ltb, ltb-true, ltb-false, not-true}
 use Rattle.lines.specs.Lists.{all}
-use Rattle.cells.specs.Cells.{list_at, code_at}
 use Rattle.rules.specs.Basics.{is_in}
 use Rattle.prefix.specs.Prefix.{is_existential}
 use Rattle.copies.specs.Marks.{marks, Marking, Unmarked}
 use Rattle.copies.specs.Copies.{image_of, images_of}
-use Rattle.copies.proofs.MarkLaws.{marks_length, set_at, twice, unmarked_marking}
-use Rattle.copies.proofs.Walks.{stop, more, all_next, all_fail}
+use Rattle.copies.proofs.MarkLaws.{marks_length, set_at, twice, zero_there, unmarked_marking}
+use Rattle.copies.proofs.Walks.{all_next, all_fail}
 use Rattle.copies.proofs.Choices.{yes, no}
 use Rattle.literals.specs.Literals.{in_clause, in_line, literals_fit}
 use Rattle.literals.specs.Marks.{is_marked, meets, stamped_by, stamped, answered, cleared}
@@ -91,39 +89,30 @@ module _ (w st : ℕ → ℕ) (cs : List ℕ) where
       ap (λ (p : ℕ → Bool). all p ls)
       (fun_ext (λ z. ap (λ b. cond (is_existential w (st (z / 2))) b false) (marked_kept cs s (image_of st x) (meets_mark s x m) (image_of st z))))
 
-  module _ (t : List ℤ) (i : ℕ) {x : ℕ} (e : x ≡ code_at t i) (s : List ℕ) where
-    pub stamped_stop : x ≡ 0 → stamped_by w st cs (list_at t i) s ≡ s
-    unfolding stamped_by
-    stamped_stop z = ap (λ l. stamped_by w st cs l s) (stop t i e z)
-
-    module _ (n : x ≡ 0 → ⊥) {r : Bool} {u : List ℕ} (q : r ≡ meets w st cs s x) (k : u ≡ stamped r (image_of st x) s) where
-      one : {b : Bool} → r ≡ b → stamped_by w st cs (list_at t i) s ≡ cond b (stamped_by w st cs (list_at t (i + 1)) (set s (image_of st x) 2)) s
+  module _ {ys zs : List ℕ} {x : ℕ} (e : ys ≡ x ∷ zs) (s : List ℕ) where
+    module _ {r : Bool} {u : List ℕ} (q : r ≡ meets w st cs s x) (k : u ≡ stamped r (image_of st x) s) where
+      one : {b : Bool} → r ≡ b → stamped_by w st cs ys s ≡ cond b (stamped_by w st cs zs (set s (image_of st x) 2)) s
       unfolding stamped_by
       one h =
-          ap (λ l. stamped_by w st cs l s) (more t i e n)
-          ∙ ap (λ b. cond b (stamped_by w st cs (list_at t (i + 1)) (set s (image_of st x) 2)) s) (sym q ∙ h)
+          ap (λ l. stamped_by w st cs l s) e
+          ∙ ap (λ b. cond b (stamped_by w st cs zs (set s (image_of st x) 2)) s) (sym q ∙ h)
 
-      pub stamped_next : r ≡ true → (all (meets w st cs u) (list_at t (i + 1)) ≡ all (meets w st cs s) (list_at t i))
-          × (stamped_by w st cs (list_at t (i + 1)) u ≡ stamped_by w st cs (list_at t i) s)
+      pub stamped_next : r ≡ true → (all (meets w st cs u) zs ≡ all (meets w st cs s) ys)
+          × (stamped_by w st cs zs u ≡ stamped_by w st cs ys s)
       unfolding stamped
       stamped_next h =
           let m = sym q ∙ h in
           let f = k ∙ ap (λ b. stamped b (image_of st x) s) h in (
-            ap (λ (v : List ℕ). all (meets w st cs v) (list_at t (i + 1))) f ∙ meets_kept s x m (list_at t (i + 1)) ∙ sym (all_next t i e (meets w st cs s) n m),
-            ap (stamped_by w st cs (list_at t (i + 1))) f ∙ sym (one h),
+            ap (λ (v : List ℕ). all (meets w st cs v) zs) f ∙ meets_kept s x m zs ∙ sym (all_next (meets w st cs s) e m),
+            ap (stamped_by w st cs zs) f ∙ sym (one h),
           )
 
-      pub stamped_fail : r ≡ false → (false ≡ all (meets w st cs s) (list_at t i)) × (u ≡ stamped_by w st cs (list_at t i) s)
+      pub stamped_fail : r ≡ false → (false ≡ all (meets w st cs s) ys) × (u ≡ stamped_by w st cs ys s)
       unfolding stamped
       stamped_fail h =
-          (sym (all_fail t i e (meets w st cs s) n (sym q ∙ h)), k ∙ ap (λ b. stamped b (image_of st x) s) h ∙ sym (one h))
+          (sym (all_fail (meets w st cs s) e (sym q ∙ h)), k ∙ ap (λ b. stamped b (image_of st x) s) h ∙ sym (one h))
 
 -- A MARK IS TAKEN BACK
-zero_there : (s : List ℕ) (i : ℕ) → get_or (set s i 0) i 0 ≡ 0
-zero_there [] i = refl
-zero_there (x ∷ s) zero = refl
-zero_there (x ∷ s) (suc i) = zero_there s i
-
 module _ (w st : ℕ → ℕ) (ls : List ℕ) where
   module _ (s : List ℕ) (y : ℕ) where
     pub back_one : {r : Bool} → y < length s → get_or s y 0 ≡ 1 → r ≡ is_existential w (y / 2) → not r ≡ answered w st ls s y
@@ -168,24 +157,20 @@ module _ (w st : ℕ → ℕ) (ls : List ℕ) where
             ap (λ n. at z n (get_or (set s y 0) z 0)) (length-set s y 0) ∙ ap (at z (length s)) (get_or-set_other s y z 0 0 (eqb-false z y e))
 
   -- THE CLAUSE IS WALKED
-  module _ (t : List ℤ) (i : ℕ) {y : ℕ} (e : y ≡ code_at t i) (s : List ℕ) (a : Bool) where
-    pub back_stop : y ≡ 0 → ((a && all (answered w st ls s) (list_at t i)) ≡ a) × (cleared (list_at t i) s ≡ s)
+  module _ {ys zs : List ℕ} {y : ℕ} (e : ys ≡ y ∷ zs) (s : List ℕ) (a : Bool) where
+    pub back_next : {r : Bool} {u : List ℕ} → r ≡ answered w st ls s y → u ≡ set s y 0
+        → ((a && r && all (answered w st ls u) zs) ≡ (a && all (answered w st ls s) ys))
+        × (cleared zs u ≡ cleared ys s)
     unfolding cleared
-    back_stop z = (ap (λ l. a && all (answered w st ls s) l) (stop t i e z) ∙ and-true a, ap (λ l. cleared l s) (stop t i e z))
-
-    pub back_next : (y ≡ 0 → ⊥) → {r : Bool} {u : List ℕ} → r ≡ answered w st ls s y → u ≡ set s y 0
-        → ((a && r && all (answered w st ls u) (list_at t (i + 1))) ≡ (a && all (answered w st ls s) (list_at t i)))
-        × (cleared (list_at t (i + 1)) u ≡ cleared (list_at t i) s)
-    unfolding cleared
-    back_next n {r} {u} q k = (
-      ap (λ (v : List ℕ). a && r && all (answered w st ls v) (list_at t (i + 1))) k ∙ go a r (sym q)
-          ∙ ap (λ b. a && (b && all (answered w st ls s) (list_at t (i + 1)))) q ∙ sym (ap (λ l. a && all (answered w st ls s) l) (more t i e n)),
-      ap (cleared (list_at t (i + 1))) k ∙ sym (ap (λ l. cleared l s) (more t i e n)),
+    back_next {r} {u} q k = (
+      ap (λ (v : List ℕ). a && r && all (answered w st ls v) zs) k ∙ go a r (sym q)
+          ∙ ap (λ b. a && (b && all (answered w st ls s) zs)) q ∙ sym (ap (λ l. a && all (answered w st ls s) l) e),
+      ap (cleared zs) k ∙ sym (ap (λ l. cleared l s) e),
     )
       where
         go : (a r : Bool) → answered w st ls s y ≡ r
-            → (a && r && all (answered w st ls (set s y 0)) (list_at t (i + 1))) ≡ (a && (r && all (answered w st ls s) (list_at t (i + 1))))
-        go true true h = answered_kept s y h (list_at t (i + 1))
+            → (a && r && all (answered w st ls (set s y 0)) zs) ≡ (a && (r && all (answered w st ls s) zs))
+        go true true h = answered_kept s y h zs
         go true false h = refl
         go false r h = refl
 

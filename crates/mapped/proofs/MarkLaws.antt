@@ -18,48 +18,48 @@ use Rattle.rules.proofs.Kit.{clear, and_l, and_r, by_yes, same_test, either, In,
 use Rattle.rules.proofs.Distinct.{in_is_in, is_in_in, distinct_tail, distinct_cons, distinct_new, distinct_swap}
 use Rattle.lists.specs.Stores.{in_range}
 use Rattle.lists.proofs.ListLaws.{sign_low}
-use Rattle.mapped.specs.declared.numbers.Item.{Item}
-use Rattle.mapped.specs.Numbers.{numbers_at, end_of, ruled, ItemAt}
+use Rattle.mapped.specs.Numbers.{ruled}
 use Rattle.mapped.specs.Marks.{is_noted, is_free, Marking, marking, noting, Notes, NotedShown}
 
--- A TURN: what is left to note, noted in the marks as they are, is the whole
-module _ (bs : List ℕ) (at i : ℕ) (ns₀ ns : List ℕ) (k : ℕ)
-    (h : (noting (numbers_at bs i) ns ≡ noting (numbers_at bs at) ns₀) × (end_of bs i ≡ end_of bs at)) where
-  noted : (b : Bool) {r : ℕ} → marking b ns ≡ noting (numbers_at bs i) ns → r ≡ ruled k b (end_of bs at)
-      → Notes (numbers_at bs at) ns₀ k (end_of bs at) r ns
-  noted b e q = record {
-    answer = q ∙ ap (λ (m : Marking). ruled k m.fresh (end_of bs at)) (e ∙ h.0);
-    marks = ap (λ (m : Marking). m.marks) (e ∙ h.0);
+-- A TURN: ps and e are what is left to note of the list ps₀ with the end e₀; noted in the marks as they are, it is the whole
+pub record Noting (ps₀ ns₀ : List ℕ) (e₀ : ℕ) (ps ns : List ℕ) (e : ℕ) : Type 0 where
+  pub marks : noting ps ns ≡ noting ps₀ ns₀
+  pub ends : e ≡ e₀
+
+module _ {ps₀ ns₀ : List ℕ} {e₀ : ℕ} {ps ns : List ℕ} {e : ℕ} (h : Noting ps₀ ns₀ e₀ ps ns e) (k : ℕ) where
+  noted : (b : Bool) {r : ℕ} → marking b ns ≡ noting ps ns → r ≡ ruled k b e₀ → Notes ps₀ ns₀ k e₀ r ns
+  noted b i q = record {
+    answer = q ∙ ap (λ (m : Marking). ruled k m.fresh e₀) (i ∙ h.marks);
+    marks = ap (λ (m : Marking). m.marks) (i ∙ h.marks);
   }
 
-  pub noting_end : {n : ℕ} → ItemAt bs i (Item.End n) → Notes (numbers_at bs at) ns₀ k (end_of bs at) n ns
+  pub noting_end : ps ≡ [] → {n : ℕ} → n ≡ e → Notes ps₀ ns₀ k e₀ n ns
   unfolding noting ruled
-  noting_end e = noted true (ap (λ ps. noting ps ns) (sym e.0)) (e.1 ∙ h.1)
+  noting_end z i = noted true (ap (λ ps. noting ps ns) (sym z)) (i ∙ h.ends)
 
-  module _ {p a : ℕ} (o : ItemAt bs i (Item.Of p a)) where
+  module _ {p : ℕ} {rest : List ℕ} (o : ps ≡ p ∷ rest) where
     abbrev step : Bool → Marking
-    step b = cond b (noting (numbers_at bs a) (set ns p 1)) (marking false ns)
+    step b = cond b (noting rest (set ns p 1)) (marking false ns)
 
-    one_copy : step (is_free ns p) ≡ noting (numbers_at bs i) ns
+    one_copy : step (is_free ns p) ≡ noting ps ns
     unfolding noting
-    one_copy = ap (λ ps. noting ps ns) (sym o.0)
+    one_copy = ap (λ ps. noting ps ns) (sym o)
 
-    pub noting_high : 16384 < p → Notes (numbers_at bs at) ns₀ k (end_of bs at) k ns
+    pub noting_high : 16384 < p → Notes ps₀ ns₀ k e₀ k ns
     unfolding is_free ruled
     noting_high l = noted false (ap (λ b. step (b && eqb (get_or ns p 0) 0)) (sym (lt-leb p 16384 l)) ∙ one_copy) refl
 
-    pub noting_old : (get_or ns p 0 ≡ 0 → ⊥) → Notes (numbers_at bs at) ns₀ k (end_of bs at) k ns
+    pub noting_old : (get_or ns p 0 ≡ 0 → ⊥) → Notes ps₀ ns₀ k e₀ k ns
     unfolding is_free ruled
     noting_old n =
         noted false (ap step (sym (ap (λ b. leb p 16384 && b) (ne_eqb (get_or ns p 0) 0 n) ∙ and-false (leb p 16384))) ∙ one_copy) refl
 
-    pub noting_more : p ≤ 16384 → get_or ns p 0 ≡ 0
-        → (noting (numbers_at bs a) (set ns p 1) ≡ noting (numbers_at bs at) ns₀) × (end_of bs a ≡ end_of bs at)
+    pub noting_more : p ≤ 16384 → get_or ns p 0 ≡ 0 → {d : ℕ} → e ≡ d → Noting ps₀ ns₀ e₀ rest (set ns p 1) d
     unfolding is_free
-    noting_more l z = (
-      ap₂ (λ b d. step (b && d)) (sym (le-leb p 16384 l)) (sym (eq-eqb (get_or ns p 0) 0 z)) ∙ one_copy ∙ h.0,
-      sym o.5 ∙ h.1,
-    )
+    noting_more l z i = record {
+      marks = ap₂ (λ b d. step (b && d)) (sym (le-leb p 16384 l)) (sym (eq-eqb (get_or ns p 0) 0 z)) ∙ one_copy ∙ h.marks;
+      ends = sym i ∙ h.ends;
+    }
 
 -- THE MARKS OF A TEST: 1 where it passes, 0 elsewhere
 abbrev pub Marked : List ℕ → (ℕ → Bool) → Type 0

@@ -1,23 +1,41 @@
 // The variables of a list, one by one.
-ghost use Rattle.mapped.specs.Numbers.{ItemAt};
+ghost use Rattle.std.specs.Prelude.{◌≡◌, Some};
+ghost use Rattle.mapped.specs.Numbers.{GivesNumber, items_left};
 
-use lines::Literal;
+use rules::Rule;
 
-// A variable of a list and the place after it; or the list's end, with the refusal that it is: 0, and 2 for a token that is no literal.
+// The variables of a list from a place on, up to its zero; a token that is no literal comes as a refusal and ends them. No place: nothing is left.
 #[derive(Clone, Copy)]
-pub enum Item {
-    Of(usize, usize),
-    End(u32),
+pub struct Numbers<'a> {
+    line: &'a [u8],
+    at: Option<usize>,
 }
 
-pub fn item_at(line: &[u8], at: usize) -> Item
-    ensures { ItemAt line.now at result }
-{
-    let Literal::Of(x, e) = lines::literal_at(line, at) else {
-        return Item::End(2);
-    };
-    if x == 0 {
-        return Item::End(0);
+impl<'a> Numbers<'a> {
+    pub fn new(line: &'a [u8], at: usize) -> Numbers<'a>
+        ensures { (result.line.now ≡ line.now) × (result.at ≡ Some at) }
+    {
+        Numbers { line, at: Some(at) }
     }
-    Item::Of((x / 2) as usize, e)
+}
+
+impl<'a> Iterator for Numbers<'a> {
+    type Item = Result<usize, Rule>;
+
+    ghost next_gives = { GivesNumber };
+
+    ghost remaining = { items_left };
+
+    fn next(&mut self) -> Option<Result<usize, Rule>> {
+        let at = self.at?;
+        self.at = None;
+        match lines::literal_at(self.line, at) {
+            None => Some(Err(Rule::Malformed)),
+            Some((0, _)) => None,
+            Some((x, after)) => {
+                self.at = Some(after);
+                Some(Ok((x / 2) as usize))
+            }
+        }
+    }
 }

@@ -13,6 +13,7 @@ use borrow.Author.Tests.{ne_eqb, eqb-true, eqb-false, leb-true}
 use Rattle.cells.specs.Cells.{num, cell_at, list_at, Kept}
 use Rattle.cells.proofs.Laws.{at_same, at_other, kept_self, kept_chain, kept_set, stored}
 use Rattle.prefix.specs.Prefix.{entry}
+use Rattle.lines.specs.Scan.{cap}
 use Rattle.lists.specs.Lists.{is_list}
 use Rattle.lists.specs.Stores.{codes_at, puts, in_range}
 use Rattle.lists.proofs.StoreLaws.{list_kept}
@@ -22,22 +23,20 @@ use Rattle.rules.specs.Codes.{code_of}
 use Rattle.rules.specs.Expansion.{Copy, copies, copy_vars, is_mapped, stands_for, annotation}
 use Rattle.rules.proofs.Kit.{and_l, and_r, by_yes, eqb_self, In}
 use Rattle.rules.proofs.Distinct.{is_in_in, distinct_tail, distinct_new, append_distinct}
-use Rattle.mapped.specs.declared.numbers.Item.{Item}
-use Rattle.mapped.specs.Numbers.{numbers_at, end_of, ItemAt}
+use Rattle.mapped.specs.Numbers.{numbers_at, end_of}
 use Rattle.mapping.specs.Stores.{Written, written, copying}
 use Rattle.mapping.specs.Shown.{CopyShown}
-use Rattle.mapped.proofs.NumberLaws.{list_ends}
 use Rattle.mapped.proofs.MarkLaws.{mapped_in_lem, mapped_append}
 
 -- A TURN of storing the copies: what is left to store, stored in the tables as they are, is the whole
-pub record Copying (bs : List ℕ) (at from note first : ℕ) (t₀ u₀ t u : List ℤ) (i j k : ℕ) : Type 0 where
+pub record Copying (bs : List ℕ) (at from note first : ℕ) (t₀ u₀ t u : List ℤ) (ps : List ℕ) (d : ℕ) (es : List ℕ) (e k : ℕ) : Type 0 where
   pub long : length t ≡ length t₀
   pub wide : length u ≡ length u₀
-  pub low : k + 2 * at ≤ first + 2 * i
+  pub low : k + 2 * length ps ≤ first + 2 * length (numbers_at bs at)
   pub text : note < 2147483648 → first + 2 * length bs < 2147483648
-      → copying note (numbers_at bs i) (numbers_at bs j) k t u ≡ copying note (numbers_at bs at) (numbers_at bs from) first t₀ u₀
-  pub copies_end : end_of bs i ≡ end_of bs at
-  pub existentials_end : end_of bs j ≡ end_of bs from
+      → copying note ps es k t u ≡ copying note (numbers_at bs at) (numbers_at bs from) first t₀ u₀
+  pub copies_end : d ≡ end_of bs at
+  pub existentials_end : e ≡ end_of bs from
 
 module _ (bs : List ℕ) (at from note first : ℕ) (t₀ u₀ : List ℤ) where
   abbrev Stores : List ℤ → List ℤ → Type 0
@@ -49,49 +48,57 @@ module _ (bs : List ℕ) (at from note first : ℕ) (t₀ u₀ : List ℤ) where
   abbrev Stored : ℕ → List ℤ → List ℤ → Type 0
   Stored r t u = Stores t u × (is_list bs at ≡ true → is_list bs from ≡ true → r ≡ 0)
 
-  pub copying_start : Copying bs at from note first t₀ u₀ t₀ u₀ at from first
-  copying_start = record { long = refl; wide = refl; low = omega arith; text = λ n l. refl; copies_end = refl; existentials_end = refl }
+  pub copying_start : {ps : List ℕ} {d : ℕ} {es : List ℕ} {e : ℕ} → ps ≡ numbers_at bs at → d ≡ end_of bs at → es ≡ numbers_at bs from → e ≡ end_of bs from
+      → Copying bs at from note first t₀ u₀ t₀ u₀ ps d es e first
+  copying_start a b c g = record {
+    long = refl;
+    wide = refl;
+    low = omega (arith, ap length a);
+    text = λ n l. ap₂ (λ ps es. copying note ps es first t₀ u₀) a c;
+    copies_end = b;
+    existentials_end = g;
+  }
 
-  module _ {t u : List ℤ} {i j k : ℕ} (s : Copying bs at from note first t₀ u₀ t u i j k) where
-    pub copying_end : {r : ℕ} → ItemAt bs i (Item.End r) → Stored r t u
+module _ {bs : List ℕ} {at from note first : ℕ} {t₀ u₀ t u : List ℤ} {ps : List ℕ} {d : ℕ} {es : List ℕ} {e k : ℕ}
+    (s : Copying bs at from note first t₀ u₀ t u ps d es e k) where
+  -- the copies are at their end, or the existentials
+  pub copying_end : ps ≡ [] → Stores bs at from note first t₀ u₀ t u
+  unfolding copying
+  copying_end o = λ n l. sym (ap (λ ps. copying note ps es k t u) o) ∙ s.text n l
+
+  pub copying_short : es ≡ [] → Stores bs at from note first t₀ u₀ t u
+  unfolding copying
+  copying_short o = λ n l. sym (ap (λ es. copying note ps es k t u) o ∙ none_left ps) ∙ s.text n l
+    where
+      none_left : (ps : List ℕ) → copying note ps [] k t u ≡ written t u
+      none_left [] = refl
+      none_left (p ∷ ps) = refl
+
+  module _ {p : ℕ} {rest : List ℕ} (o : ps ≡ p ∷ rest) {x : ℕ} {more : List ℕ} (q : es ≡ x ∷ more) where
+    pub copying_more : x ≤ cap → length (numbers_at bs at) ≤ length bs → {c g : ℕ} → d ≡ c → e ≡ g → {t₁ t₂ u₁ : List ℤ}
+        → t₁ ≡ set t (k % 2147483648) (pos (x % 2147483648)) → t₂ ≡ set t₁ (k % 2147483648 + 1) (pos (note % 2147483648))
+        → u₁ ≡ set u (p - 1) (pos (k % 2147483648 % 2147483648))
+        → Copying bs at from note first t₀ u₀ t₂ u₁ rest c more g (k % 2147483648 + 2)
     unfolding copying
-    copying_end e =
-        (λ n l. sym (ap (λ ps. copying note ps (numbers_at bs j) k t u) e.0) ∙ s.text n l, λ a b. e.1 ∙ s.copies_end ∙ list_ends bs at a)
-
-    module _ {p a : ℕ} (o : ItemAt bs i (Item.Of p a)) where
-      pub copying_short : {r : ℕ} → ItemAt bs j (Item.End r) → Stored r t u
-      unfolding copying
-      copying_short e = (
-        λ n l. sym (ap₂ (λ ps es. copying note ps es k t u) o.0 e.0) ∙ s.text n l,
-        λ a b. e.1 ∙ s.existentials_end ∙ list_ends bs from b,
-      )
-
-      pub copying_more : {e b : ℕ} {t₁ t₂ u₁ : List ℤ} → ItemAt bs j (Item.Of e b)
-          → t₁ ≡ set t (k % 2147483648) (pos (e % 2147483648)) → t₂ ≡ set t₁ (k % 2147483648 + 1) (pos (note % 2147483648))
-          → u₁ ≡ set u (p - 1) (pos (k % 2147483648 % 2147483648))
-          → Copying bs at from note first t₀ u₀ t₂ u₁ a b (k % 2147483648 + 2)
-      unfolding copying
-      copying_more {e} {b} {t₁} {t₂} {u₁} q y₁ y₂ y₃ =
-          let further = o.3 in
-          let within = o.4 in
-          let small = q.2 in
-          let before = s.low in
-          record {
-            long = ap length y₂ ∙ length-set t₁ (k % 2147483648 + 1) (pos (note % 2147483648)) ∙ ap length y₁ ∙ length-set t (k % 2147483648) (pos (e % 2147483648)) ∙ s.long;
-            wide = ap length y₃ ∙ length-set u (p - 1) (pos (k % 2147483648 % 2147483648)) ∙ s.wide;
-            low = omega arith;
-            text = λ n l.
-                let w : k % 2147483648 ≡ k = stored (omega arith) in
-                let e₁ : t₁ ≡ set t k (pos e) = y₁ ∙ ap₂ (λ w v. set t w (pos v)) w (stored (omega arith)) in
-                let e₂ : t₂ ≡ set (set t k (pos e)) (k + 1) (pos note) =
-                y₂ ∙ ap₂ (λ w v. set t₁ (w + 1) (pos v)) w (stored n) ∙ ap (λ t. set t (k + 1) (pos note)) e₁ in
-                let e₃ : u₁ ≡ set u (p - 1) (pos k) = y₃ ∙ ap (λ w. set u (p - 1) (pos w)) (ap (λ w. w % 2147483648) w ∙ w) in
-                ap (λ w. copying note (numbers_at bs a) (numbers_at bs b) (w + 2) t₂ u₁) w
-                ∙ ap₂ (copying note (numbers_at bs a) (numbers_at bs b) (k + 2)) e₂ e₃
-                ∙ sym (ap₂ (λ ps es. copying note ps es k t u) o.0 q.0) ∙ s.text n l;
-            copies_end = sym o.5 ∙ s.copies_end;
-            existentials_end = sym q.5 ∙ s.existentials_end;
-          }
+    copying_more small few {c} {g} i j {t₁} {t₂} {u₁} y₁ y₂ y₃ =
+        let before = s.low in
+        let one : length ps ≡ suc (length rest) = ap length o in
+        record {
+          long = ap length y₂ ∙ length-set t₁ (k % 2147483648 + 1) (pos (note % 2147483648)) ∙ ap length y₁ ∙ length-set t (k % 2147483648) (pos (x % 2147483648)) ∙ s.long;
+          wide = ap length y₃ ∙ length-set u (p - 1) (pos (k % 2147483648 % 2147483648)) ∙ s.wide;
+          low = omega arith;
+          text = λ n l.
+              let w : k % 2147483648 ≡ k = stored (omega arith) in
+              let e₁ : t₁ ≡ set t k (pos x) = y₁ ∙ ap₂ (λ w v. set t w (pos v)) w (stored (omega arith)) in
+              let e₂ : t₂ ≡ set (set t k (pos x)) (k + 1) (pos note) =
+              y₂ ∙ ap₂ (λ w v. set t₁ (w + 1) (pos v)) w (stored n) ∙ ap (λ t. set t (k + 1) (pos note)) e₁ in
+              let e₃ : u₁ ≡ set u (p - 1) (pos k) = y₃ ∙ ap (λ w. set u (p - 1) (pos w)) (ap (λ w. w % 2147483648) w ∙ w) in
+              ap (λ w. copying note rest more (w + 2) t₂ u₁) w
+              ∙ ap₂ (copying note rest more (k + 2)) e₂ e₃
+              ∙ sym (ap₂ (λ ps es. copying note ps es k t u) o q) ∙ s.text n l;
+          copies_end = sym i ∙ s.copies_end;
+          existentials_end = sym j ∙ s.existentials_end;
+        }
 
 -- the annotation, and then the copies
 pub storing : (bs : List ℕ) (at from notes m used : ℕ) (t u : List ℤ) {t₁ t₂ u₂ : List ℤ} {r : ℕ} → t₁ ≡ puts t (used % 2147483648) (codes_at bs notes)

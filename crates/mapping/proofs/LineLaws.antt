@@ -3,6 +3,7 @@ use mathlib.Core.Path.{◌≡◌, refl, ap, ap₂, sym, ◌∙◌, subst}
 use mathlib.Core.Bool.{Bool, true, false, ◌&&◌, cond, false≢true}
 use mathlib.Core.List.{List, [], ◌++◌, map}
 use mathlib.Core.Option.{Option, none, some}
+use Rattle.std.proofs.Common.{Result, Ok, Err}
 use Prim.Native.Nat.{ℕ, ◌+◌, ◌*◌, ◌%◌, ◌<◌, ◌≤◌, max}
 use native.Mathlib.Omega.{arith}
 use lib.ListN.{length, replicate}
@@ -21,6 +22,10 @@ use Rattle.lists.proofs.ListLaws.{listing_list}
 use Rattle.lists.proofs.StoreLaws.{Stored, list_in_table}
 use Rattle.rules.specs.Basics.{distinct}
 use Rattle.rules.specs.Literals.{Lits, vars}
+use Rattle.rules.specs.declared.Rule.{Rule}
+use Rattle.rules.specs.declared.Rule.TheVariants.{Malformed}
+use Rattle.rules.specs.Rule.{number}
+use Rattle.rules.proofs.RuleLaws.{number_not_zero}
 use Rattle.rules.specs.Formula.{Formula}
 use Rattle.rules.specs.Forms.{CertificateLine, mapping, hints, expansion, addition, deletion, mapping_form}
 use Rattle.rules.specs.Limits.{allows}
@@ -31,8 +36,6 @@ use Rattle.rules.specs.Expansion.{Copy, copies, copy_vars, is_mapped, stands_for
 use Rattle.rules.proofs.Kit.{and_l, and_r}
 use Rattle.rules.proofs.ProperLaw.{proper_mapping}
 use Rattle.mapping.specs.declared.Mapped.{Mapped}
-use Rattle.mapping.specs.declared.Answer.{Answer}
-use Rattle.mapping.specs.declared.Answer.TheVariants.{Next, Refuse}
 use Rattle.mapped.specs.Numbers.{numbers_at, end_of, ruled}
 use Rattle.mapped.specs.Marks.{marking, noting, Notes}
 use Rattle.annotation.specs.Annotation.{annotates}
@@ -87,7 +90,7 @@ unwritten t ns = record { map = refl; values = refl }
 
 module _ (bs : List ℕ) (at : ℕ) (turn : Bool) (v : ℕ) (s : Mapped) (prefix : List ℤ) (t : Lent) where
   -- NO MAPPING LINE
-  pub line_malformed : mapping_form (tokens_from bs at) ≡ none → MappingLine bs at turn v s prefix t (Refuse 2) t
+  pub line_malformed : mapping_form (tokens_from bs at) ≡ none → MappingLine bs at turn v s prefix t (Err Malformed) t
   line_malformed e = record {
     malformed = λ q. (refl, unwritten t t.noted);
     formed = λ ps es ls q. absurd (let x = sym e ∙ q in let z : ◌≡◌ {A = ℕ} 0 1 = cc in omega arith);
@@ -96,7 +99,7 @@ module _ (bs : List ℕ) (at : ℕ) (turn : Bool) (v : ℕ) (s : Mapped) (prefix
   }
 
   -- what a line of this form leads to
-  abbrev Formed : Answer → Lent → CertificateLine → Type 0
+  abbrev Formed : Result Mapped Rule → Lent → CertificateLine → Type 0
   Formed r u (mapping ps es ls) =
       (f : Formula) (m : List Copy) → Before (length bs) v s prefix t f m
       → Leads (length bs) s t f (m ++ copies ps es ls) (after s ps es ls) (refusal turn s t f m ps es ls) r u
@@ -106,7 +109,7 @@ module _ (bs : List ℕ) (at : ℕ) (turn : Bool) (v : ℕ) (s : Mapped) (prefix
   Formed r u (deletion c) = Unit {0}
 
   -- it is enough to know it of the lists that were read
-  line_formed : {line : CertificateLine} → mapping_form (tokens_from bs at) ≡ some line → (r : Answer) (u : Lent) → Formed r u line
+  line_formed : {line : CertificateLine} → mapping_form (tokens_from bs at) ≡ some line → (r : Result Mapped Rule) (u : Lent) → Formed r u line
       → length u.map ≡ length t.map → length u.values ≡ length t.values → MappingLine bs at turn v s prefix t r u
   line_formed {line} e r u h l w = record {
     malformed = λ q. absurd (let x = sym e ∙ q in let z : ◌≡◌ {A = ℕ} 0 1 = cc in omega arith);
@@ -139,10 +142,10 @@ module _ {bs : List ℕ} {at k m c e l i h : ℕ} (o : Lists bs at k m c e l i h
   q = after s ps es ls
 
   module _ (f : Formula) (n : List Copy) (b : Before (length bs) v s prefix t f n) where
-    abbrev Led : Answer → Lent → Option ℕ → Type 0
+    abbrev Led : Result Mapped Rule → Lent → Option ℕ → Type 0
     Led r u x = Leads (length bs) s t f (n ++ copies ps es ls) q x r u
 
-    led_by : (r : Answer) (u : Lent) {x y z : Bool} {k : Option ℕ} → turn ≡ x → ranged v c e l ≡ y
+    led_by : (r : Result Mapped Rule) (u : Lent) {x y z : Bool} {k : Option ℕ} → turn ≡ x → ranged v c e l ≡ y
         → (leb q.used (length t.map) && leb q.largest (length t.values)) ≡ z → mapping_rules f n ps es ls ≡ k
         → Led r u (judging x y z k) → Led r u (refusal turn s t f n ps es ls)
     led_by r u a d g j z = subst (Led r u) (sym (refusal_by turn s t f n ps es ls a (sym (range_rule o v b.low f b.highest) ∙ d) g j)) z
@@ -161,20 +164,20 @@ module _ {bs : List ℕ} {at k m c e l i h : ℕ} (o : Lists bs at k m c e l i h
     room_rule range = ap₂ (λ a b. leb a (length t.map) && leb b (length t.values)) used_after (largest_after range)
 
     -- REFUSED by what the first pass tells
-    led_early : {d : ℕ} → d ≡ early turn (ranged v c e l) room_there → (d ≡ 0 → ⊥) → Led (Refuse d) t (refusal turn s t f n ps es ls)
+    led_early : (d : Rule) → number d ≡ early turn (ranged v c e l) room_there → Led (Err d) t (refusal turn s t f n ps es ls)
     unfolding early
-    led_early {d} x z = go turn refl (ranged v c e l) refl room_there refl x
+    led_early d x = go turn refl (ranged v c e l) refl room_there refl x
       where
         go : (a : Bool) → turn ≡ a → (b : Bool) → ranged v c e l ≡ b → (w : Bool) → room_there ≡ w
-            → d ≡ cond a (cond b (cond w 0 15) 3) 2 → Led (Refuse d) t (refusal turn s t f n ps es ls)
-        go true a true b true w r = absurd (z r)
-        go true a true b false w r = led_by (Refuse d) t a b (sym (room_rule b) ∙ w) refl (r, unwritten t t.noted)
-        go true a false b w y r = led_by (Refuse d) t a b refl refl (r, unwritten t t.noted)
-        go false a b y w u r = led_by (Refuse d) t a refl refl refl (r, unwritten t t.noted)
+            → number d ≡ cond a (cond b (cond w 0 15) 3) 2 → Led (Err d) t (refusal turn s t f n ps es ls)
+        go true a true b true w r = absurd (number_not_zero d r)
+        go true a true b false w r = led_by (Err d) t a b (sym (room_rule b) ∙ w) refl (r, unwritten t t.noted)
+        go true a false b w y r = led_by (Err d) t a b refl refl (r, unwritten t t.noted)
+        go false a b y w u r = led_by (Err d) t a refl refl refl (r, unwritten t t.noted)
 
     -- AFTER the first pass
     module _ (passed : Passed turn (ranged v c e l) room_there) where
-      led_late : (r : Answer) (u : Lent) {k : Option ℕ} → mapping_rules f n ps es ls ≡ k → Led r u k → Led r u (refusal turn s t f n ps es ls)
+      led_late : (r : Result Mapped Rule) (u : Lent) {k : Option ℕ} → mapping_rules f n ps es ls ≡ k → Led r u k → Led r u (refusal turn s t f n ps es ls)
       led_late r u j z = led_by r u passed.sequence passed.in_range (sym (room_rule passed.in_range) ∙ passed.has_room) j z
 
       -- what is stored
@@ -223,10 +226,10 @@ module _ {bs : List ℕ} {at k m c e l i h : ℕ} (o : Lists bs at k m c e l i h
       → d ≡ early turn (ranged v c e l) room_there
   early_as g r w q = q ∙ ap₂ (early turn) w (r ∙ ap (λ h. roomy need (length t.map) h (length t.values)) g)
 
-  pub line_early : {d top : ℕ} {x y : Bool} → top ≡ high → x ≡ roomy need (length t.map) top (length t.values) → y ≡ ranged v c e l → d ≡ early turn y x
-      → (d ≡ 0 → ⊥) → MappingLine bs at turn v s prefix t (Refuse d) t
-  line_early {d} g r w q z =
-      line_formed bs at turn v s prefix t o.form (Refuse d) t (λ f n b. led_early f n b (early_as g r w q) z) refl refl
+  pub line_early : (d : Rule) {top : ℕ} {x y : Bool} → top ≡ high → x ≡ roomy need (length t.map) top (length t.values) → y ≡ ranged v c e l
+      → number d ≡ early turn y x → MappingLine bs at turn v s prefix t (Err d) t
+  line_early d g r w q =
+      line_formed bs at turn v s prefix t o.form (Err d) t (λ f n b. led_early f n b d (early_as g r w q)) refl refl
 
   pub line_passed : {d top : ℕ} {x y : Bool} → top ≡ high → x ≡ roomy need (length t.map) top (length t.values) → y ≡ ranged v c e l → d ≡ early turn y x
       → d ≡ 0 → Passed turn (ranged v c e l) room_there
@@ -238,16 +241,16 @@ module _ {bs : List ℕ} {at k m c e l i h : ℕ} (o : Lists bs at k m c e l i h
     rules_as f n b d test g =
         rules_are o v b.low passed.in_range b.told b.shown.noted notes b.proper.once test ∙ ap₂ (λ x y. 7 unless x then 8 unless y) d g
 
-    line_7 : r ≡ false → MappingLine bs at turn v s prefix t (Refuse 7) (marked_as t noted)
-    line_7 d =
-        line_formed bs at turn v s prefix t o.form (Refuse 7) (marked_as t noted)
-        (λ f n b. led_late f n b passed (Refuse 7) (marked_as t noted) (rules_as f n b d refl refl) (refl, unwritten t noted)) refl refl
+    line_7 : (k : Rule) → number k ≡ 7 → r ≡ false → MappingLine bs at turn v s prefix t (Err k) (marked_as t noted)
+    line_7 k y d =
+        line_formed bs at turn v s prefix t o.form (Err k) (marked_as t noted)
+        (λ f n b. led_late f n b passed (Err k) (marked_as t noted) (rules_as f n b d refl refl) (y, unwritten t noted)) refl refl
 
     module _ (fresh : r ≡ true) {a : Bool} (test : a ≡ annotates (entry prefix) (numbers_at bs i) (numbers_at bs h)) where
-      line_8 : a ≡ false → MappingLine bs at turn v s prefix t (Refuse 8) (marked_as t noted)
-      line_8 d =
-          line_formed bs at turn v s prefix t o.form (Refuse 8) (marked_as t noted)
-          (λ f n b. led_late f n b passed (Refuse 8) (marked_as t noted) (rules_as f n b fresh test d) (refl, unwritten t noted)) refl refl
+      line_8 : (k : Rule) → number k ≡ 8 → a ≡ false → MappingLine bs at turn v s prefix t (Err k) (marked_as t noted)
+      line_8 k y d =
+          line_formed bs at turn v s prefix t o.form (Err k) (marked_as t noted)
+          (λ f n b. led_late f n b passed (Err k) (marked_as t noted) (rules_as f n b fresh test d) (y, unwritten t noted)) refl refl
 
       module _ (good : a ≡ true) {map' values' : List ℤ} (writes : s.used + m + 1 + 2 * length bs < 2147483648
           → written map' values' ≡ copying s.used (numbers_at bs at) (numbers_at bs i) (s.used + m + 1) (puts t.map s.used (codes_at bs h)) t.values) where
@@ -277,10 +280,10 @@ module _ {bs : List ℕ} {at k m c e l i h : ℕ} (o : Lists bs at k m c e l i h
                 (ps_are o v b.low passed.in_range) (es_are o v b.low passed.in_range)
 
         line_next : {top : ℕ} → top ≡ high → length map' ≡ length t.map → length values' ≡ length t.values
-            → MappingLine bs at turn v s prefix t (Next (record { used = need; largest = top })) u
+            → MappingLine bs at turn v s prefix t (Ok (record { used = need; largest = top })) u
         line_next {top} g =
-            line_formed bs at turn v s prefix t o.form (Next (record { used = need; largest = top })) u
-            (λ f n b. led_late f n b passed (Next (record { used = need; largest = top })) u (rules_as f n b fresh test good)
+            line_formed bs at turn v s prefix t o.form (Ok (record { used = need; largest = top })) u
+            (λ f n b. led_late f n b passed (Ok (record { used = need; largest = top })) u (rules_as f n b fresh test good)
             (ap₂ (λ x y. record { used = x; largest = y }) (used_after f n b) (g ∙ largest_after f n b passed.in_range), accepted f n b))
 
   -- the three lists end with their zeros
@@ -294,37 +297,38 @@ module _ {bs : List ℕ} {at k m c e l i h : ℕ} (o : Lists bs at k m c e l i h
   annotation_list = listing_list bs h o.annotation.listing
 
   -- THE SAME by the refusals that the rules' functions answer
-  module _ (passed : Passed turn (ranged v c e l) room_there) {p : ℕ} {noted : List ℕ}
-      (notes : Notes (numbers_at bs at) t.noted 7 (end_of bs at) p noted) where
+  module _ (passed : Passed turn (ranged v c e l) room_there) where
     abbrev free : Bool
     free = (noting (numbers_at bs at) t.noted).fresh
 
-    marked : marking free noted ≡ noting (numbers_at bs at) t.noted
-    marked = ap (marking free) notes.marks
+    marked : {p : ℕ} {noted : List ℕ} → Notes (numbers_at bs at) t.noted 7 (end_of bs at) p noted → marking free noted ≡ noting (numbers_at bs at) t.noted
+    marked notes = ap (marking free) notes.marks
 
-    pub line_taken : (p ≡ 0 → ⊥) → MappingLine bs at turn v s prefix t (Refuse p) (marked_as t noted)
-    line_taken k =
-        let b = ruled_broken notes.answer (list_ends bs at copies_list) k in
-        subst (λ n. MappingLine bs at turn v s prefix t (Refuse n) (marked_as t noted)) (sym b.1) (line_7 passed marked b.0)
+    pub line_taken : (p : Rule) {noted : List ℕ} → Notes (numbers_at bs at) t.noted 7 (end_of bs at) (number p) noted
+        → MappingLine bs at turn v s prefix t (Err p) (marked_as t noted)
+    line_taken p notes =
+        let b = ruled_broken notes.answer (list_ends bs at copies_list) (number_not_zero p) in line_7 passed (marked notes) p b.1 b.0
 
-    module _ (z : p ≡ 0) {a : ℕ}
-        (test : is_list bs i ≡ true → is_list bs h ≡ true → a ≡ ruled 8 (annotates (entry prefix) (numbers_at bs i) (numbers_at bs h)) 0) where
+    module _ {noted : List ℕ} (notes : Notes (numbers_at bs at) t.noted 7 (end_of bs at) 0 noted) where
+      abbrev Unfit : ℕ → Type 0
+      Unfit a = is_list bs i ≡ true → is_list bs h ≡ true → a ≡ ruled 8 (annotates (entry prefix) (numbers_at bs i) (numbers_at bs h)) 0
+
       is_free_lem : free ≡ true
-      is_free_lem = ruled_kept notes.answer (list_ends bs at copies_list) (λ x. omega arith) z
+      is_free_lem = ruled_kept notes.answer (list_ends bs at copies_list) (λ x. omega arith) refl
 
-      pub line_unfit : (a ≡ 0 → ⊥) → MappingLine bs at turn v s prefix t (Refuse a) (marked_as t noted)
-      line_unfit k =
-          let b = ruled_broken (test existentials_list annotation_list) refl k in
-          subst (λ n. MappingLine bs at turn v s prefix t (Refuse n) (marked_as t noted)) (sym b.1) (line_8 passed marked is_free_lem refl b.0)
+      pub line_unfit : (a : Rule) → Unfit (number a) → MappingLine bs at turn v s prefix t (Err a) (marked_as t noted)
+      line_unfit a test =
+          let b = ruled_broken (test existentials_list annotation_list) refl (number_not_zero a) in
+          line_8 passed (marked notes) is_free_lem refl a b.1 b.0
 
-      module _ (good : a ≡ 0) {r : ℕ} {map' values' : List ℤ} (writes : is_list bs h ≡ true
+      module _ (test : Unfit 0) {r : ℕ} {map' values' : List ℤ} (writes : is_list bs h ≡ true
           → (is_list bs at ≡ true → is_list bs i ≡ true → r ≡ 0) × (s.used + m + 1 + 2 * length bs < 2147483648
           → written map' values' ≡ copying s.used (numbers_at bs at) (numbers_at bs i) (s.used + m + 1) (puts t.map s.used (codes_at bs h)) t.values)) where
         pub line_stored : r ≡ 0
         line_stored = (writes annotation_list).0 copies_list existentials_list
 
         pub line_good : {top : ℕ} → top ≡ high → length map' ≡ length t.map → length values' ≡ length t.values
-            → MappingLine bs at turn v s prefix t (Next (record { used = need; largest = top })) (record { map = map'; values = values'; noted = noted })
+            → MappingLine bs at turn v s prefix t (Ok (record { used = need; largest = top })) (record { map = map'; values = values'; noted = noted })
         line_good =
-            line_next passed marked is_free_lem refl (ruled_kept (test existentials_list annotation_list) refl (λ x. omega arith) good)
+            line_next passed (marked notes) is_free_lem refl (ruled_kept (test existentials_list annotation_list) refl (λ x. omega arith) refl)
             (writes annotation_list).1

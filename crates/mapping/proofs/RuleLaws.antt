@@ -3,6 +3,7 @@ use mathlib.Core.Path.{◌≡◌, refl, ap, ap₂, sym, ◌∙◌, subst}
 use mathlib.Core.Bool.{Bool, true, false, ◌&&◌}
 use mathlib.Core.List.{List, ◌++◌}
 use mathlib.Core.Option.{none, some}
+use Rattle.std.proofs.Common.{Option, Some, None, Ok, Err, ok_or}
 use Prim.Native.Nat.{ℕ, ◌+◌, ◌*◌, ◌<◌, ◌≤◌}
 use native.Mathlib.Omega.{arith}
 use lib.ListN.{length, length-map}
@@ -12,7 +13,7 @@ use borrow.Author.Tests.{le-leb, lt-leb, leb-true, leb-false}
 use Rattle.lines.specs.Lists.{all}
 use Rattle.lines.specs.Scan.{cap, tokens_from}
 use Rattle.prefix.specs.Prefix.{entry, Told}
-use Rattle.lists.specs.declared.Mapping.{Mapping}
+use Rattle.lists.specs.declared.MappingLists.{MappingLists}
 use Rattle.lists.specs.Lists.{lits_at, mapping_at}
 use Rattle.lists.specs.Stores.{in_range}
 use Rattle.lists.proofs.ListLaws.{Listing, all_low, between, listed_low, listed_range}
@@ -20,6 +21,8 @@ use Rattle.lists.proofs.FormLaws.{MapsAs, maps}
 use Rattle.lists.proofs.FormLaws.{Mapped as Lists}
 use Rattle.rules.specs.Basics.{greatest, distinct}
 use Rattle.rules.specs.Literals.{Lits, var, vars}
+use Rattle.rules.specs.declared.Rule.{Rule}
+use Rattle.rules.specs.declared.Rule.TheVariants.{Malformed}
 use Rattle.rules.specs.Formula.{Formula}
 use Rattle.rules.specs.Forms.{mapping_form}
 use Rattle.rules.specs.Limits.{allows}
@@ -37,14 +40,26 @@ use Rattle.mapped.proofs.MarkLaws.{fresh_rule, noted_after}
 use Rattle.annotation.proofs.AnnotationLaws.{annotation_rule}
 
 -- WHAT THE FIRST PASS TELLS
-pub mapping_told : (bs : List ℕ) (at : ℕ) {r : Mapping} {k m c e l i h : ℕ} → r ≡ mapping_at bs at → r ≡ Mapping.Lists k m c e l i h → Lists bs at k m c e l i h
-mapping_told bs at p q = subst (MapsAs bs at) (sym p ∙ q) (maps bs at)
+abbrev pub ListsOf : List ℕ → ℕ → MappingLists → Type 0
+ListsOf bs at q = Lists bs at q.copies q.literals q.highest_copy q.highest_existential q.highest_universal q.existentials_at q.literals_at
 
-pub mapping_lost : (bs : List ℕ) (at : ℕ) {r : Mapping} → r ≡ mapping_at bs at → r ≡ Mapping.Bad → mapping_form (tokens_from bs at) ≡ none
-mapping_lost bs at p q = subst (MapsAs bs at) (sym p ∙ q) (maps bs at)
+module _ (bs : List ℕ) (at : ℕ) {r : Option MappingLists} (p : r ≡ mapping_at bs at) where
+  pub mapping_told : {q : MappingLists} → ok_or r Malformed ≡ Ok q → ListsOf bs at q
+  mapping_told {q} e = go r e (subst (MapsAs bs at) (sym p) (maps bs at))
+    where
+      go : (r : Option MappingLists) → ok_or r Malformed ≡ Ok q → MapsAs bs at r → ListsOf bs at q
+      go None e o = cc
+      go (Some x) e o = let z : x ≡ q = cc in subst (ListsOf bs at) z o
+
+  pub mapping_lost : {k : Rule} → ok_or r Malformed ≡ Err k → (k ≡ Malformed) × (mapping_form (tokens_from bs at) ≡ none)
+  mapping_lost {k} e = go r e (subst (MapsAs bs at) (sym p) (maps bs at))
+    where
+      go : (r : Option MappingLists) → ok_or r Malformed ≡ Err k → MapsAs bs at r → (k ≡ Malformed) × (mapping_form (tokens_from bs at) ≡ none)
+      go None e o = (let z : Malformed ≡ k = cc in sym z, o)
+      go (Some x) e o = cc
 
 -- the greatest as it was read is as good as the greatest, for a limit below the cap
-low_listed : {bs : List ℕ} {at s n m e : ℕ} → Listing bs at s n m e → (k : ℕ) → k < cap → leb m k ≡ all (λ v. leb v k) (vars (lits_at bs at))
+low_listed : {bs : List ℕ} {at : ℕ} {s : Bool} {n m e : ℕ} → Listing bs at s n m e → (k : ℕ) → k < cap → leb m k ≡ all (λ v. leb v k) (vars (lits_at bs at))
 low_listed {bs} {at} {s} {n} {m} {e} o k h = go (leb (greatest (vars (lits_at bs at))) k) refl ∙ sym (all_low k (vars (lits_at bs at)))
   where
     go : (b : Bool) → leb (greatest (vars (lits_at bs at))) k ≡ b → leb m k ≡ leb (greatest (vars (lits_at bs at))) k

@@ -1,5 +1,5 @@
 -- A mapping line: what its first pass tells, and what the line leads to. Assumes nothing.
-use Rattle.std.specs.Prelude.{◌≡◌, Bool, ◌&&◌, cond, List, ◌++◌, ℕ, ◌+◌, ◌*◌, ◌<◌, ◌≤◌, max, leb, length, ℤ}
+use Rattle.std.specs.Prelude.{◌≡◌, Bool, ◌&&◌, cond, List, ◌++◌, ℕ, ◌+◌, ◌*◌, ◌<◌, ◌≤◌, max, leb, length, ℤ, Result, Ok, Err}
 use Rattle.std.proofs.Math.Option.{Option, none, some}
 use Rattle.lines.specs.Lists.{all}
 use Rattle.lines.specs.Scan.{tokens_from}
@@ -7,6 +7,9 @@ use Rattle.cells.specs.Cells.{Kept}
 use Rattle.prefix.specs.Prefix.{Told}
 use Rattle.rules.specs.Basics.{greatest}
 use Rattle.rules.specs.Literals.{Lits, vars}
+use Rattle.rules.specs.declared.Rule.{Rule}
+use Rattle.rules.specs.declared.Rule.TheVariants.{Malformed}
+use Rattle.rules.specs.Rule.{number}
 use Rattle.rules.specs.Formula.{Formula}
 use Rattle.rules.specs.Forms.{mapping, mapping_form}
 use Rattle.rules.specs.Limits.{allows}
@@ -15,8 +18,6 @@ use Rattle.rules.specs.FormulaLines.{up_to_v}
 use Rattle.rules.specs.Expansion.{Copy, copies, mapping_rules}
 use Rattle.rules.specs.Least.{Proper}
 use Rattle.mapping.specs.declared.Mapped.{Mapped}
-use Rattle.mapping.specs.declared.Answer.{Answer}
-use Rattle.mapping.specs.declared.Answer.TheVariants.{Next, Refuse}
 use Rattle.mapping.specs.Shown.{MappingShown}
 
 -- the largest copy, existential and universal of the line are in range
@@ -76,16 +77,16 @@ pub record Unwritten (t u : Lent) : Type 0 where
   pub values : u.values ≡ t.values
 
 -- THE RULES' NUMBER AND THE CODE'S ANSWER
-abbrev pub Leads : ℕ → Mapped → Lent → Formula → List Copy → Mapped → Option ℕ → Answer → Lent → Type 0
-Leads n s t f m q none (Next p) u = (p ≡ q) × After n s t q u f m
-Leads n s t f m q none (Refuse k) u = ⊥
-Leads n s t f m q (some i) (Next p) u = ⊥
-Leads n s t f m q (some i) (Refuse k) u = (k ≡ i) × Unwritten t u
+abbrev pub Leads : ℕ → Mapped → Lent → Formula → List Copy → Mapped → Option ℕ → Result Mapped Rule → Lent → Type 0
+Leads n s t f m q none (Ok p) u = (p ≡ q) × After n s t q u f m
+Leads n s t f m q none (Err k) u = ⊥
+Leads n s t f m q (some i) (Ok p) u = ⊥
+Leads n s t f m q (some i) (Err k) u = (number k ≡ i) × Unwritten t u
 
 -- WHAT THE LINE LEADS TO
-pub record MappingLine (bs : List ℕ) (at : ℕ) (turn : Bool) (v : ℕ) (s : Mapped) (prefix : List ℤ) (t : Lent) (r : Answer) (u : Lent)
+pub record MappingLine (bs : List ℕ) (at : ℕ) (turn : Bool) (v : ℕ) (s : Mapped) (prefix : List ℤ) (t : Lent) (r : Result Mapped Rule) (u : Lent)
     : Type 0 where
-  pub malformed : mapping_form (tokens_from bs at) ≡ none → (r ≡ Refuse 2) × Unwritten t u
+  pub malformed : mapping_form (tokens_from bs at) ≡ none → (r ≡ Err Malformed) × Unwritten t u
   pub formed : (ps es : List ℕ) (ls : Lits) → mapping_form (tokens_from bs at) ≡ some (mapping ps es ls)
       → (f : Formula) (m : List Copy) → Before (length bs) v s prefix t f m
       → Leads (length bs) s t f (m ++ copies ps es ls) (after s ps es ls) (refusal turn s t f m ps es ls) r u

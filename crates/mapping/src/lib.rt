@@ -4,13 +4,16 @@
 mod stores;
 
 ghost use Rattle.std.specs.Prelude.{◌≡◌};
+ghost use Rattle.rules.specs.Rule.{broken};
+ghost use Rattle.tables.specs.Lent.{tables_of, SameLent};
 ghost use Rattle.mapping.specs.MappingLine.{ranged, roomy, early, lent, MappingLine};
 
 use annotation::annotates;
-use cells::larger;
-use lists::Mapping;
+use lists::MappingLists;
 use mapped::{COPIES, Noted, fresh};
+use rules::Rule;
 pub use stores::store;
+use tables::LentTables;
 
 // Places of the map table below 2^31 are stored as they are.
 pub const PLACES: usize = 2147483648;
@@ -22,50 +25,40 @@ pub struct Mapped {
     pub largest: u32,
 }
 
-// The state after a mapping line, or the number of its refusal.
-#[derive(Clone, Copy)]
-pub enum Answer {
-    Next(Mapped),
-    Refuse(u32),
-}
-
 // Rule 3: the largest copy is at most 16384, the largest existential and universal at most V.
-fn ranged(v: u32, c: u32, e: u32, l: u32) -> bool
-    ensures { result ≡ ranged v c e l }
+#[tactic(auto, unfolding(crate::specs::MappingLine::ranged))]
+fn ranged(v: u32, lists: MappingLists) -> bool
+    ensures { result
+        ≡ ranged v lists.highest_copy lists.highest_existential lists.highest_universal }
 {
-    if COPIES < c as usize {
-        return false;
-    }
-    if v < e {
-        return false;
-    }
-    l <= v
+    lists.highest_copy as usize <= COPIES
+        && lists.highest_existential <= v
+        && lists.highest_universal <= v
 }
 
 // Rule 15: what is needed of the map and of the values is there.
+#[tactic(auto, unfolding(crate::specs::MappingLine::roomy))]
 fn roomy(need: usize, long: usize, high: usize, wide: usize) -> bool
     ensures { result ≡ roomy need long high wide }
 {
-    if long < need {
-        return false;
-    }
-    high <= wide
+    need <= long && high <= wide
 }
 
-// The refusal by what the first pass tells: 2, 3 or 15; 0 if there is none.
-fn early(in_turn: bool, in_range: bool, room: bool) -> u32
-    ensures { result ≡ early in_turn in_range room }
+// The rule broken by what the first pass tells: 2, 3 or 15.
+#[tactic(auto, unfolding(crate::specs::MappingLine::early))]
+fn early(in_turn: bool, in_range: bool, room: bool) -> Result<(), Rule>
+    ensures { broken result ≡ early in_turn in_range room }
 {
-    if in_turn {
-        if in_range {
-            if room {
-                return 0;
-            }
-            return 15;
-        }
-        return 3;
+    if !in_turn {
+        return Err(Rule::Malformed);
     }
-    2
+    if !in_range {
+        return Err(Rule::OutOfRange);
+    }
+    if !room {
+        return Err(Rule::TableFull);
+    }
+    Ok(())
 }
 
 // A mapping line, from the place after its letter on; `in_turn` if no line of a later kind came before.
@@ -75,38 +68,29 @@ pub fn mapping_line(
     in_turn: bool,
     v: u32,
     state: Mapped,
-    prefix: &[i32],
-    map: &mut [i32],
-    values: &mut [i32],
+    tables: &mut LentTables,
     noted: &mut Noted,
-) -> Answer
-    ensures { MappingLine line.now at in_turn v state prefix.now
-        (lent map.old values.old noted.old) result (lent map.new values.new noted.new) }
+) -> Result<Mapped, Rule>
+    ensures read { MappingLine line.now at in_turn v state (tables_of tables.old).prefix
+        (lent (tables_of tables.old).map (tables_of tables.old).values noted.old) result
+        (lent (tables_of tables.new).map (tables_of tables.new).values noted.new) }
+    ensures rest { tables_of tables.new ≡ record (tables_of tables.old)
+        { map = (tables_of tables.new).map; values = (tables_of tables.new).values } }
+    ensures lent { SameLent tables.old tables.new }
 {
-    let Mapping::Lists(k, m, c, e, l, i, h) = lists::mapping_at(line, at) else {
-        return Answer::Refuse(2);
-    };
-    let need = state.used % PLACES + (2 * k + m + 3);
-    let high = larger(state.largest, c);
-    let room = roomy(need, map.len(), high as usize, values.len());
-    let n = early(in_turn, ranged(v, c, e, l), room);
-    if n != 0 {
-        return Answer::Refuse(n);
-    }
-    let p = fresh(line, at, noted);
-    if p != 0 {
-        return Answer::Refuse(p);
-    }
-    let q = annotates(line, i, h, prefix);
-    if q != 0 {
-        return Answer::Refuse(q);
-    }
-    let z = store(line, at, i, h, m, state.used, map, values);
-    if z != 0 {
-        return Answer::Refuse(z);
-    }
-    Answer::Next(Mapped {
-        used: need,
-        largest: high,
-    })
+    let lists = lists::mapping_at(line, at).ok_or(Rule::Malformed)?;
+    let used = state.used % PLACES + (2 * lists.copies + lists.literals + 3);
+    let largest = state.largest.max(lists.highest_copy);
+    let room = roomy(
+        used,
+        tables.map.len(),
+        largest as usize,
+        tables.values.len(),
+    );
+    early(in_turn, ranged(v, lists), room)?;
+    fresh(line, at, noted)?;
+    let prefix = &mut *tables.prefix;
+    annotates(line, lists.existentials_at, lists.literals_at, prefix)?;
+    store(line, at, lists, state.used, tables.map, tables.values)?;
+    Ok(Mapped { used, largest })
 }

@@ -6,9 +6,9 @@ use Prim.Native.Nat.{ℕ, zero, suc, ◌+◌, ◌-◌, ◌<◌, ◌≤◌}
 use native.Mathlib.Omega.{arith}
 use lib.Dec.{eqb, leb, ltb}
 use lib.ListN.{length, drop, get_or, set, length-set, length-append, length-take, take-append-drop}
-use lib.Seq.{get_or-set_same, get_or-set_other, drop-drop, drop_at, get_or-drop}
+use lib.Seq.{get_or-set_same, get_or-set_other, set_out, drop-drop, drop_at, get_or-drop}
 use lib.IntN.{ℤ}
-use borrow.Author.Tests.{eq-eqb, ne_eqb, leb-true, lt-ltb, le-ltb}
+use borrow.Author.Tests.{eq-eqb, ne_eqb, leb-true, leb-false, lt-ltb, le-ltb}
 use Rattle.lines.specs.Lists.{all}
 use Rattle.cells.specs.Cells.{cell_at, cells_of}
 use Rattle.cells.proofs.Laws.{cells_at}
@@ -38,6 +38,14 @@ module _ (starts : List ℕ) (i k : ℕ) where
   pub noted_outside : 8193 ≤ i → starts ≡ noted starts i k
   unfolding noted
   noted_outside h = sym (ap (λ b. cond b (set starts i k) starts) (le-ltb i 8193 h))
+
+  -- a list with a place for each clause keeps what is set
+  pub noted_set : length starts ≡ 8193 → set starts i k ≡ noted starts i k
+  noted_set w = go (leb 8193 i) refl
+    where
+      go : (b : Bool) → leb 8193 i ≡ b → set starts i k ≡ noted starts i k
+      go true e = set_out starts i k (omega (arith, leb-true 8193 i e, w)) ∙ noted_outside (leb-true 8193 i e)
+      go false e = noted_inside (omega (arith, leb-false 8193 i e))
 
   noted_long : length (noted starts i k) ≡ length starts
   unfolding noted

@@ -6,7 +6,8 @@ use Prim.Native.Nat.{ℕ, zero, suc, ◌+◌, ◌-◌, ◌<◌, ◌≤◌}
 use native.Mathlib.Omega.{arith}
 use lib.IntN.{ℤ}
 use lib.Dec.{eqb, ltb}
-use borrow.Author.Tests.{ne_eqb, eqb-true, eqb-false, lt-ltb, ltb-true, ltb-false}
+use borrow.Author.Tests.{ne_eqb, eqb-true, lt-ltb, ltb-true, ltb-false}
+use Rattle.std.proofs.Common.{Some, None}
 use Rattle.cells.specs.Cells.{cell_at}
 use Rattle.rules.specs.Basics.{is_in}
 use Rattle.rules.specs.Formula.{Formula, bound, universal, existential, depends_on}
@@ -65,26 +66,15 @@ depends_universal w e u = go (is_universal w u)
     go true = refl
     go false = refl
 
--- the narrower of two is a variable, not 0
-pub narrower_one : (w : ℕ → ℕ) (e f : ℕ) → 0 < f → 0 < narrower w e f
-unfolding narrower
-narrower_one w e f h = go (eqb e 0) refl (ltb (w e) (w f))
-  where
-    go : (x : Bool) → eqb e 0 ≡ x → (y : Bool) → 0 < cond x f (cond y e f)
-    go true k y = h
-    go false k true = let z = eqb-false e 0 k in omega arith
-    go false k false = h
-
-pub narrower_none : (w : ℕ → ℕ) (f : ℕ) → narrower w 0 f ≡ f
+-- the narrower of one is itself
+pub narrower_none : (w : ℕ → ℕ) (f : ℕ) → narrower w None f ≡ f
 unfolding narrower
 narrower_none w f = refl
 
 -- and it depends on what both depend on
-pub narrower_depends : (w : ℕ → ℕ) (e f u : ℕ) → (e ≡ 0 → ⊥) → dependency w (narrower w e f) u ≡ dependency w e u && dependency w f u
+pub narrower_depends : (w : ℕ → ℕ) (e f u : ℕ) → dependency w (narrower w (Some e) f) u ≡ dependency w e u && dependency w f u
 unfolding dependency narrower
-narrower_depends w e f u h =
-    ap (λ b. cond (is_universal w u) (ltb (w u) (w (cond b f (cond (ltb (w e) (w f)) e f)))) false) (ne_eqb e 0 h)
-    ∙ go (is_universal w u) (ltb (w e) (w f)) refl
+narrower_depends w e f u = go (is_universal w u) (ltb (w e) (w f)) refl
   where
     left : ℕ → Bool
     left v = ltb (w u) (w v)

@@ -1,6 +1,6 @@
 -- The prefix table: place v - 1 has the word of variable v, 2k + 1 for the k-th variable of the prefix (from 0) if it is universal,
 -- 2k + 2 if it is existential, and 0 if it is not bound. Assumes nothing.
-use Rattle.std.specs.Prelude.{◌≡◌, Bool, true, false, not, cond, List, [], ◌∷◌, ℕ, ◌+◌, ◌*◌, ◌-◌, ◌/◌, ◌%◌, ◌<◌, ◌≤◌, ℤ, eqb, ltb}
+use Rattle.std.specs.Prelude.{◌≡◌, Bool, true, false, not, cond, List, [], ◌∷◌, ℕ, ◌+◌, ◌*◌, ◌-◌, ◌/◌, ◌%◌, ◌<◌, ◌≤◌, ℤ, eqb, ltb, Option, Some, None}
 use Rattle.cells.specs.Cells.{cell_at}
 use Rattle.rules.specs.Basics.{is_in, distinct}
 use Rattle.rules.specs.Formula.{Bound, for_all, exists, bound_var, Formula, bound}
@@ -21,9 +21,10 @@ module _ (w : ℕ → ℕ) where
   unfoldable pub dependency : ℕ → ℕ → Bool
   dependency e u = cond (is_universal u) (ltb (w u) (w e)) false
 
-  -- of two existentials the one further left, f where e is 0
-  unfoldable pub narrower : ℕ → ℕ → ℕ
-  narrower e f = cond (eqb e 0) f (cond (ltb (w e) (w f)) e f)
+  -- of two existentials the one further left, the second where there is no first
+  unfoldable pub narrower : Option ℕ → ℕ → ℕ
+  narrower None f = f
+  narrower (Some e) f = cond (ltb (w e) (w f)) e f
 
 -- the number of a quantifier
 abbrev pub kind_of : Bound → ℕ

@@ -12,7 +12,7 @@ use borrow.Author.Tests.{eqb-true, eqb-false}
 use Rattle.cells.specs.Cells.{code_at, list_at}
 use Rattle.cells.proofs.Laws.{list_end, list_more}
 use Rattle.lists.proofs.StoreLaws.{list_kept}
-use Rattle.progress.specs.declared.Hinted.{Hinted}
+use Rattle.std.specs.Prelude as prelude
 use Rattle.progress.specs.Shown.{HintsShown}
 
 -- THE CODES OF A LIST, place by place
@@ -35,20 +35,20 @@ code_in_list t (suc i) a h = test (eqb (code_at t a) 0) refl (code_in_list t i (
         ap (λ l. get_or l (suc i) 0) (list_more t a (eqb-false (code_at t a) 0 q)) ∙ r (omega arith) ∙ ap (code_at t) e
 
 -- what hint number i says
-pub hint_read : (h : Hinted) (proof : List ℤ) (used : ℕ) (ns : List ℕ) → HintsShown h proof used (some ns) → (i : ℕ) → i < length ns
+pub hint_read : (h : prelude.Option ℕ) (proof : List ℤ) (used : ℕ) (ns : List ℕ) → HintsShown h proof used (some ns) → (i : ℕ) → i < length ns
     → code_at proof i / 2 ≡ get_or ns i 0
 hint_read h proof used ns e i l =
-    let k = ap length e.3 ∙ length-map ns (λ k. 2 * k) in
+    let k = ap length e.2 ∙ length-map ns (λ k. 2 * k) in
     let z : 0 + i ≡ i = omega arith in
     let q : code_at proof i ≡ 2 * get_or ns i 0
-    = ap (code_at proof) (sym z) ∙ sym (code_in_list proof i 0 (omega arith)) ∙ ap (λ l. get_or l i 0) e.3 ∙ get_or-map (λ k. 2 * k) ns i 0 in
+    = ap (code_at proof) (sym z) ∙ sym (code_in_list proof i 0 (omega arith)) ∙ ap (λ l. get_or l i 0) e.2 ∙ get_or-map (λ k. 2 * k) ns i 0 in
     omega arith
 
 -- what is stored beyond the used part leaves them
-pub hints_kept : (h : Hinted) (proof u : List ℤ) (used : ℕ) → take used u ≡ take used proof → (o : Option (List ℕ))
+pub hints_kept : (h : prelude.Option ℕ) (proof u : List ℤ) (used : ℕ) → take used u ≡ take used proof → (o : Option (List ℕ))
     → HintsShown h proof used o → HintsShown h u used o
 hints_kept h proof u used same none e = e
-hints_kept h proof u used same (some ns) e = (e.0, e.1, e.2, there ∙ e.3)
+hints_kept h proof u used same (some ns) e = (e.0, e.1, there ∙ e.2)
   where
     there : list_at u 0 ≡ list_at proof 0
-    there = let k = ap length e.3 ∙ length-map ns (λ k. 2 * k) in list_kept proof u used 0 same (omega (arith, e.1, e.2))
+    there = let k = ap length e.2 ∙ length-map ns (λ k. 2 * k) in list_kept proof u used 0 same (omega (arith, e.1))

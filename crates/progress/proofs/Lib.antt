@@ -2,3 +2,4 @@
 pub mod OrderLaws
 pub mod HintLaws
 pub mod EndLaws
+pub mod AptLaws

@@ -15,80 +15,26 @@ use Rattle.rules.specs.CertificateLines.{State, before_additions, before_hints, 
 use Rattle.rules.proofs.Kit.{clear}
 use Rattle.tables.specs.Tables.{Tables}
 use Rattle.clauses.specs.Standing.{proof_need, marks_need, grown, room_for}
-use Rattle.reading.specs.declared.Counts.{Counts}
-use Rattle.progress.specs.declared.Hinted.{Hinted}
+use Rattle.std.specs.Prelude as prelude
+use Rattle.std.specs.Option.{is_some}
 use Rattle.progress.specs.declared.Progress.{Progress}
-use Rattle.progress.specs.Shown.{Work, HintsShown, Shown}
-use Rattle.progress.specs.Order.{no_additions, no_hints, hint_missing, hint_left, limit_broken}
-
--- a choice by a test that came out
-module _ {A : Type 0} (b : Bool) (x y : A) {r : A} where
-  pub yes : b ≡ true → r ≡ x → r ≡ cond b x y
-  yes p q = q ∙ sym (ap (λ t. cond t x y) p)
-
-  pub no : b ≡ false → r ≡ y → r ≡ cond b x y
-  no p q = q ∙ sym (ap (λ t. cond t x y) p)
-
--- WHAT THE CODE TESTS
-module _ (c : Counts) where
-  pub additions_none : c.additions ≡ 0 → eqb c.deletions 0 ≡ no_additions c
-  unfolding no_additions
-  additions_none e = yes (eqb c.additions 0) (eqb c.deletions 0) false (eq-eqb c.additions 0 e) refl
-
-  pub additions_some : (c.additions ≡ 0 → ⊥) → false ≡ no_additions c
-  unfolding no_additions
-  additions_some n = no (eqb c.additions 0) (eqb c.deletions 0) false (ne_eqb c.additions 0 n) refl
+use Rattle.progress.specs.declared.Work.{Work}
+use Rattle.progress.specs.Shown.{HintsShown, Shown}
+use Rattle.progress.specs.Order.{no_additions, no_hints, with_hints, hint_missing, hint_left, limit_broken}
 
 module _ (p : Progress) where
-  abbrev after : Bool
-  after = cond (eqb p.counts.expansions 0) (no_additions p.counts) false
-
-  pub hints_there : p.hinted.given ≡ true → false ≡ no_hints p
-  unfolding no_hints
-  hints_there e = yes p.hinted.given false after e refl
-
-  module _ (e : p.hinted.given ≡ false) where
-    pub expansions_none : {r : Bool} → p.counts.expansions ≡ 0 → r ≡ no_additions p.counts → r ≡ no_hints p
-    unfolding no_hints
-    expansions_none z q =
-        no p.hinted.given false after e
-        (yes (eqb p.counts.expansions 0) (no_additions p.counts) false (eq-eqb p.counts.expansions 0 z) q)
-
-    pub expansions_some : (p.counts.expansions ≡ 0 → ⊥) → false ≡ no_hints p
-    unfolding no_hints
-    expansions_some n =
-        no p.hinted.given false after e
-        (no (eqb p.counts.expansions 0) (no_additions p.counts) false (ne_eqb p.counts.expansions 0 n) refl)
-
   -- what stands before every line but mapping lines
-  pub nothing_before : no_hints p ≡ true → (p.hinted.given ≡ false) × (p.counts.expansions + p.counts.additions ≡ 0)
+  pub nothing_before : no_hints p ≡ true → (p.hinted ≡ prelude.None) × (p.counts.expansions + p.counts.additions ≡ 0)
   unfolding no_hints no_additions
-  nothing_before h = go p.hinted.given refl (eqb p.counts.expansions 0) refl (eqb p.counts.additions 0) refl h
+  nothing_before h = go p.hinted refl (eqb p.counts.expansions 0) refl (eqb p.counts.additions 0) refl h
     where
-      go : (a : Bool) → p.hinted.given ≡ a → (b : Bool) → eqb p.counts.expansions 0 ≡ b → (c : Bool) → eqb p.counts.additions 0 ≡ c
-          → cond a false (cond b (cond c (eqb p.counts.deletions 0) false) false) ≡ true
-          → (p.hinted.given ≡ false) × (p.counts.expansions + p.counts.additions ≡ 0)
-      go true x b y c z e = absurd (clear e refl)
-      go false x false y c z e = absurd (clear e refl)
-      go false x true y false z e = absurd (clear e refl)
-      go false x true y true z e = (x, omega (arith, eqb-true p.counts.expansions 0 y, eqb-true p.counts.additions 0 z))
-
-  module _ {e : ℕ} (w : e ≡ p.counts.expansions) where
-    pub missing_read : p.hinted.given ≡ true → leb p.hinted.count e ≡ hint_missing p
-    unfolding hint_missing
-    missing_read h = yes p.hinted.given (leb p.hinted.count p.counts.expansions) false h (ap (leb p.hinted.count) w)
-
-    pub left_read : p.hinted.given ≡ true → ltb e p.hinted.count ≡ hint_left p
-    unfolding hint_left
-    left_read h = yes p.hinted.given (ltb p.counts.expansions p.hinted.count) false h (ap (λ e. ltb e p.hinted.count) w)
-
-  pub missing_none : p.hinted.given ≡ false → false ≡ hint_missing p
-  unfolding hint_missing
-  missing_none h = no p.hinted.given (leb p.hinted.count p.counts.expansions) false h refl
-
-  pub left_none : p.hinted.given ≡ false → false ≡ hint_left p
-  unfolding hint_left
-  left_none h = no p.hinted.given (ltb p.counts.expansions p.hinted.count) false h refl
+      go : (a : prelude.Option ℕ) → p.hinted ≡ a → (b : Bool) → eqb p.counts.expansions 0 ≡ b → (c : Bool) → eqb p.counts.additions 0 ≡ c
+          → cond (is_some a) false (cond b (cond c (eqb p.counts.deletions 0) false) false) ≡ true
+          → (p.hinted ≡ prelude.None) × (p.counts.expansions + p.counts.additions ≡ 0)
+      go (prelude.Some n) x b y c z e = absurd (clear e refl)
+      go prelude.None x false y c z e = absurd (clear e refl)
+      go prelude.None x true y false z e = absurd (clear e refl)
+      go prelude.None x true y true z e = (x, omega (arith, eqb-true p.counts.expansions 0 y, eqb-true p.counts.additions 0 z))
 
 -- WHAT THE RULES SAY
 additions_same : (a d : ℕ) → cond (eqb a 0) (eqb d 0) false ≡ eqb (a + d) 0
@@ -99,16 +45,16 @@ additions_same a d = go (eqb a 0) refl (eqb d 0) refl
     go true e false g = sym (ne_eqb (a + d) 0 (λ z. eqb-false d 0 g (omega arith)))
     go false e y g = sym (ne_eqb (a + d) 0 (λ z. eqb-false a 0 e (omega arith)))
 
-hints_same : (o : Option (List ℕ)) (h : Hinted) (proof : List ℤ) (used : ℕ) → HintsShown h proof used o
-    → (a e : Bool) → cond h.given false (cond e a false) ≡ a && e && maybe o true (λ ns. false)
-hints_same none h proof used g a e = ap (λ h. cond h false (cond e a false)) g ∙ go a e
+hints_same : (o : Option (List ℕ)) (h : prelude.Option ℕ) (proof : List ℤ) (used : ℕ) → HintsShown h proof used o
+    → (a e : Bool) → cond (is_some h) false (cond e a false) ≡ a && e && maybe o true (λ ns. false)
+hints_same none h proof used g a e = ap (λ h. cond (is_some h) false (cond e a false)) g ∙ go a e
   where
     go : (a e : Bool) → cond e a false ≡ a && e && true
     go true true = refl
     go true false = refl
     go false true = refl
     go false false = refl
-hints_same (some ns) h proof used g a e = ap (λ h. cond h false (cond e a false)) g.0 ∙ go a e
+hints_same (some ns) h proof used g a e = ap (λ h. cond (is_some h) false (cond e a false)) g.0 ∙ go a e
   where
     go : (a e : Bool) → false ≡ a && e && false
     go true true = refl
@@ -123,19 +69,19 @@ turned a b = go (ltb a b) refl
     go true z = sym (ap not (lt-leb b a (ltb-true a b z)))
     go false z = sym (ap not (le-leb b a (ltb-false a b z)))
 
-missing_same : (o : Option (List ℕ)) (h : Hinted) (e : ℕ) (proof : List ℤ) (used : ℕ) → HintsShown h proof used o
-    → cond h.given (leb h.count e) false ≡ not (maybe o true (λ ns. ltb e (length ns)))
-missing_same none h e proof used g = ap (λ b. cond b (leb h.count e) false) g
-missing_same (some ns) h e proof used g = ap₂ (λ b n. cond b (leb n e) false) g.0 g.1 ∙ go (ltb e (length ns)) refl
+missing_same : (o : Option (List ℕ)) (h : prelude.Option ℕ) (e : ℕ) (proof : List ℤ) (used : ℕ) → HintsShown h proof used o
+    → with_hints h (λ n. leb n e) ≡ not (maybe o true (λ ns. ltb e (length ns)))
+missing_same none h e proof used g = ap (λ h. with_hints h (λ n. leb n e)) g
+missing_same (some ns) h e proof used g = ap (λ h. with_hints h (λ n. leb n e)) g.0 ∙ go (ltb e (length ns)) refl
   where
     go : (b : Bool) → ltb e (length ns) ≡ b → leb (length ns) e ≡ not b
     go true q = lt-leb (length ns) e (ltb-true e (length ns) q)
     go false q = le-leb (length ns) e (ltb-false e (length ns) q)
 
-left_same : (o : Option (List ℕ)) (h : Hinted) (e : ℕ) (proof : List ℤ) (used : ℕ) → HintsShown h proof used o
-    → cond h.given (ltb e h.count) false ≡ not (maybe o true (λ ns. leb (length ns) e))
-left_same none h e proof used g = ap (λ b. cond b (ltb e h.count) false) g
-left_same (some ns) h e proof used g = ap₂ (λ b n. cond b (ltb e n) false) g.0 g.1 ∙ turned e (length ns)
+left_same : (o : Option (List ℕ)) (h : prelude.Option ℕ) (e : ℕ) (proof : List ℤ) (used : ℕ) → HintsShown h proof used o
+    → with_hints h (λ n. ltb e n) ≡ not (maybe o true (λ ns. leb (length ns) e))
+left_same none h e proof used g = ap (λ h. with_hints h (λ n. ltb e n)) g
+left_same (some ns) h e proof used g = ap (λ h. with_hints h (λ n. ltb e n)) g.0 ∙ turned e (length ns)
 
 module _ {p : Progress} {t : Tables} {w : Work} {f : Formula} {s : State} (sh : Shown p t w f s) where
   pub order_additions : no_additions p.counts ≡ before_additions s
@@ -183,29 +129,6 @@ module _ (p : Progress) (n m proof marks values : ℕ) where
 
   abbrev most : ℕ
   most = max p.mapped.largest m
-
-  pub limit_3 : 16384 < m → 3 ≡ limit_broken p n m proof marks values
-  unfolding limit_broken
-  limit_3 h = no (leb m 16384) (cond room (cond (leb most values) 0 15) 15) 3 (lt-leb m 16384 h) refl
-
-  module _ (h : m ≤ 16384) where
-    pub limit_room : {b : Bool} → b ≡ room → b ≡ false → 15 ≡ limit_broken p n m proof marks values
-    unfolding limit_broken
-    limit_room e z =
-        yes (leb m 16384) (cond room (cond (leb most values) 0 15) 15) 3 (le-leb m 16384 h) (no room (cond (leb most values) 0 15) 15 (sym e ∙ z) refl)
-
-    module _ {b : Bool} (e : b ≡ room) (y : b ≡ true) where
-      pub limit_values : values < most → 15 ≡ limit_broken p n m proof marks values
-      unfolding limit_broken
-      limit_values l =
-          yes (leb m 16384) (cond room (cond (leb most values) 0 15) 15) 3 (le-leb m 16384 h)
-          (yes room (cond (leb most values) 0 15) 15 (sym e ∙ y) (no (leb most values) 0 15 (lt-leb most values l) refl))
-
-      pub limit_none : most ≤ values → 0 ≡ limit_broken p n m proof marks values
-      unfolding limit_broken
-      limit_none l =
-          yes (leb m 16384) (cond room (cond (leb most values) 0 15) 15) 3 (le-leb m 16384 h)
-          (yes room (cond (leb most values) 0 15) 15 (sym e ∙ y) (yes (leb most values) 0 15 (le-leb most values l) refl))
 
   pub limited : Limited p n m proof marks values (limit_broken p n m proof marks values)
   unfolding limit_broken

@@ -1,5 +1,6 @@
 -- The order of the lines, hints, limits and counts, and the end, over the progress. Assumes nothing.
-use Rattle.std.specs.Prelude.{Bool, false, cond, List, ℕ, ◌+◌, ◌%◌, max, eqb, leb, ltb, ℤ}
+use Rattle.std.specs.Prelude.{Bool, false, cond, List, ℕ, ◌+◌, ◌%◌, max, eqb, leb, ltb, ℤ, Option, Some, None}
+use Rattle.std.specs.Option.{is_some}
 use Rattle.clauses.specs.Standing.{room_for, standing, places_of, has_empty}
 use Rattle.reading.specs.declared.Counts.{Counts}
 use Rattle.progress.specs.declared.Progress.{Progress}
@@ -9,14 +10,19 @@ unfoldable pub no_additions : Counts → Bool
 no_additions c = cond (eqb c.additions 0) (eqb c.deletions 0) false
 
 unfoldable pub no_hints : Progress → Bool
-no_hints p = cond p.hinted.given false (cond (eqb p.counts.expansions 0) (no_additions p.counts) false)
+no_hints p = cond (is_some p.hinted) false (cond (eqb p.counts.expansions 0) (no_additions p.counts) false)
+
+-- there was an `o` line, and its number of hints passes a test
+abbrev pub with_hints : Option ℕ → (ℕ → Bool) → Bool
+with_hints None test = false
+with_hints (Some count) test = test count
 
 -- "hint count: fewer or more hints than `e` lines"
 unfoldable pub hint_missing : Progress → Bool
-hint_missing p = cond p.hinted.given (leb p.hinted.count p.counts.expansions) false
+hint_missing p = with_hints p.hinted (λ count. leb count p.counts.expansions)
 
 unfoldable pub hint_left : Progress → Bool
-hint_left p = cond p.hinted.given (ltb p.counts.expansions p.hinted.count) false
+hint_left p = with_hints p.hinted (λ count. ltb p.counts.expansions count)
 
 -- the first of the rules 3 and 15 that a clause of n literals with copies up to m breaks, in tables of these lengths; 0 if none
 unfoldable pub limit_broken : Progress → ℕ → ℕ → ℕ → ℕ → ℕ → ℕ

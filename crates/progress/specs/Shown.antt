@@ -1,10 +1,11 @@
 -- What the progress, the tables and the working memory show of the rules' state between two lines. Assumes nothing.
-use Rattle.std.specs.Prelude.{◌≡◌, true, false, List, map, ◌⊎◌, ℕ, ◌+◌, ◌*◌, ◌≤◌, ◌<◌, length, ℤ}
-use Rattle.std.proofs.Common.{inl, inr}
+use Rattle.std.specs.Prelude.{◌≡◌, true, false, List, map, ℕ, ◌+◌, ◌*◌, ◌≤◌, ◌<◌, length, ℤ, Result}
+use Rattle.std.specs.Prelude as prelude
 use Rattle.std.proofs.Math.Option.{Option, none, some}
 use Rattle.cells.specs.Cells.{list_at}
 use Rattle.lists.specs.Stores.{in_range}
 use Rattle.rules.specs.Basics.{maybe}
+use Rattle.rules.specs.declared.Rule.{Rule}
 use Rattle.rules.specs.Formula.{Formula}
 use Rattle.rules.specs.Needs.{Places, places, fits}
 use Rattle.rules.specs.Least.{Proper}
@@ -19,32 +20,14 @@ use Rattle.formula.specs.Shown.{FormulaShown}
 use Rattle.mapping.specs.Shown.{MappingShown}
 use Rattle.matrix.specs.Index.{Indexed}
 use Rattle.clauses.specs.Standing.{standing, places_of, literals, proof_need, marks_need, empty_above, Filled}
-use Rattle.propagation.specs.Answers.{Held}
-use Rattle.progress.specs.declared.Hinted.{Hinted}
+use Rattle.propagation.specs.Answers.{HeldIn}
 use Rattle.progress.specs.declared.Progress.{Progress}
-use Rattle.progress.specs.declared.Step.{Step}
-use Rattle.progress.specs.declared.Step.TheVariants.{Next, Refuse}
-
--- THE WORKING MEMORY of a check: where the matrix clauses start, which copies are mapped, which literals are false, in which order
--- they became so. (Of the watches nothing is known.)
-pub record Work : Type 0 where
-  pub starts : List ℕ
-  pub noted : List ℕ
-  pub falses : List ℕ
-  pub trail : List ℕ
-
-abbrev pub work : List ℕ → List ℕ → List ℕ → List ℕ → Work
-work a b c d = record { starts = a; noted = b; falses = c; trail = d }
-
--- as a call has it
-abbrev pub four : List ℕ → List ℕ → List ℕ → List ℕ → Work
-four a b c d = work a b c d
+use Rattle.progress.specs.declared.Work.{Work}
 
 -- THE HINTS: the proof table begins with them, each as twice its number, and a 0
-abbrev pub HintsShown : Hinted → List ℤ → ℕ → Option (List ℕ) → Type 0
-HintsShown h proof used none = h.given ≡ false
-HintsShown h proof used (some ns) =
-    (h.given ≡ true) × (h.count ≡ length ns) × (h.count < used) × (list_at proof 0 ≡ map (λ k. 2 * k) ns)
+abbrev pub HintsShown : prelude.Option ℕ → List ℤ → ℕ → Option (List ℕ) → Type 0
+HintsShown h proof used none = h ≡ prelude.None
+HintsShown h proof used (some ns) = (h ≡ prelude.Some (length ns)) × (length ns < used) × (list_at proof 0 ≡ map (λ k. 2 * k) ns)
 
 -- the standing clauses
 abbrev pub clauses_of : Progress → Tables → List (List ℕ)
@@ -64,10 +47,10 @@ pub record Shown (p : Progress) (t : Tables) (w : Work) (f : Formula) (s : State
   pub copies : p.mapped.largest ≤ 16384
   pub hints : HintsShown p.hinted t.proof (proof_need p.store) s.hinted
   pub named : maybe s.hinted true (in_range p.formula.c) ≡ true
-  pub fresh : p.counts.expansions + p.counts.additions ≡ 0 → p.hinted.given ≡ false → p.store ≡ empty_above 0
+  pub fresh : p.counts.expansions + p.counts.additions ≡ 0 → p.hinted ≡ prelude.None → p.store ≡ empty_above 0
   pub clauses : literals (clauses_of p t) ≡ s.standing
   pub filled : Filled t.proof t.marks p.store
-  pub held : Held (clauses_of p t) w.falses w.trail p.units.n
+  pub held : HeldIn (clauses_of p t) w.trail
   pub expansions : p.counts.expansions ≡ s.expansions
   pub additions : p.counts.additions ≡ s.additions
   pub deletions : p.counts.deletions ≡ s.deletions
@@ -89,11 +72,6 @@ ferat_code = record { Shown = Shown; counts = λ p. p.counts; weight = weight }
 abbrev pub Light : Progress → ℕ → Type 0
 Light = reading.Light ferat_rules ferat_code
 
--- the next progress, or a refusal's number
-abbrev pub answer_of : Step → Progress ⊎ ℕ
-answer_of (Next q) = inl q
-answer_of (Refuse k) = inr k
-
 -- WHAT A LINE OF n BYTES LEADS TO: the rules' step and the code's; the tables before, the tables and the working memory after
-abbrev pub Stepped : Formula → Progress → ℕ → Tables → rules.Step State → Step → Tables → Work → Type 0
-Stepped f p n t x r u w = Leads ferat_rules ferat_code f p n t x (answer_of r) u w
+abbrev pub Stepped : Formula → Progress → ℕ → Tables → rules.Step State → Result Progress Rule → Tables → Work → Type 0
+Stepped f p n t x r u w = Leads ferat_rules ferat_code f p n t x r u w

@@ -7,33 +7,32 @@ mod order;
 use clauses::Store;
 pub use ending::end_broken;
 use formula::Reading;
+use mapped::Noted;
 use mapping::Mapped;
+use matrix::Starts;
 pub use order::{before_additions, before_hints, hint_left, hint_missing, limit_broken, one_more};
-use propagation::Units;
+use propagation::Watches;
 use reading::Counts;
+use trail::Trail;
 
-// Whether there was an `o` line, and how many hints it has.
-#[derive(Clone, Copy)]
-pub struct Hinted {
-    pub given: bool,
-    pub count: usize,
-}
-
-// What is carried from line to line, beside the tables: what was read of the formula, the copies mapped, the hints, the clauses stored,
-// what follows from the standing clauses alone, and the lines accepted.
+// What is carried from line to line, beside the tables and the working memory: what was read of the formula, the copies mapped, how
+// many hints the `o` line has if there was one, the clauses stored, the place on the trail up to which watches are followed, and the lines accepted.
 #[derive(Clone, Copy)]
 pub struct Progress {
     pub formula: Reading,
     pub mapped: Mapped,
-    pub hinted: Hinted,
+    pub hinted: Option<usize>,
     pub store: Store,
-    pub units: Units,
+    pub followed: usize,
     pub counts: Counts,
 }
 
-// What a line leads to: the next progress, or a refusal's number.
-#[derive(Clone, Copy)]
-pub enum Step {
-    Next(Progress),
-    Refuse(u32),
+// The working memory of a check: where the matrix clauses start, which copies are mapped, the literals that are false since they follow
+// from the standing clauses alone, and the watches.
+#[derive(Drop)]
+pub struct Work {
+    pub starts: Starts,
+    pub noted: Noted,
+    pub trail: Trail,
+    pub watches: Watches,
 }

@@ -1,71 +1,72 @@
 // The order of the certificate's lines, its hints and its limits.
 ghost use Rattle.std.specs.Prelude.{◌≡◌};
+ghost use Rattle.rules.specs.Rule.{broken};
 ghost use Rattle.progress.specs.Order.{no_additions, no_hints, hint_missing, hint_left, limit_broken, more};
 
 use crate::Progress;
-use cells::{larger, wide};
+use mapped::COPIES;
 use reading::Counts;
+use rules::Rule;
 
 // No addition and no deletion was accepted.
+#[tactic(auto, unfolding(crate::specs::Order::no_additions))]
 pub fn before_additions(c: Counts) -> bool
     ensures { result ≡ no_additions c }
 {
-    if c.additions == 0 {
-        return c.deletions == 0;
-    }
-    false
+    c.additions == 0 && c.deletions == 0
 }
 
 // There was no `o` line, and none of the lines that come after it.
+#[tactic(auto, unfolding(crate::specs::Order::no_hints))]
 pub fn before_hints(p: Progress) -> bool
     ensures { result ≡ no_hints p }
 {
-    let c = p.counts;
-    if p.hinted.given {
+    if p.hinted.is_some() {
         return false;
     }
-    if c.expansions == 0 {
-        return before_additions(c);
-    }
-    false
+    p.counts.expansions == 0 && before_additions(p.counts)
 }
 
 // There was an `o` line, and its hints are used up.
+#[tactic(auto, unfolding(crate::specs::Order::hint_missing))]
 pub fn hint_missing(p: Progress) -> bool
     ensures { result ≡ hint_missing p }
 {
-    if p.hinted.given {
-        let taken = wide(p.counts.expansions);
-        return p.hinted.count <= taken;
-    }
-    false
+    p.hinted
+        .is_some_and(|count| count <= p.counts.expansions as usize)
 }
 
 // A hint is left that no `e` line took.
+#[tactic(auto, unfolding(crate::specs::Order::hint_left))]
 pub fn hint_left(p: Progress) -> bool
     ensures { result ≡ hint_left p }
 {
-    if p.hinted.given {
-        let taken = wide(p.counts.expansions);
-        return taken < p.hinted.count;
-    }
-    false
+    p.hinted
+        .is_some_and(|count| (p.counts.expansions as usize) < count)
 }
 
-// The first of the rules 3 and 15 that a clause of n literals with copies up to m breaks, in tables of these lengths; 0 if none.
-pub fn limit_broken(p: Progress, n: usize, m: u32, proof: usize, marks: usize, values: usize) -> u32
-    ensures { result ≡ limit_broken p n m proof marks values }
+// The first of the rules 3 and 15 that a clause of n literals with copies up to m breaks, in tables of these lengths.
+#[tactic(auto, unfolding(crate::specs::Order::limit_broken))]
+pub fn limit_broken(
+    p: Progress,
+    n: usize,
+    m: u32,
+    proof: usize,
+    marks: usize,
+    values: usize,
+) -> Result<(), Rule>
+    ensures { broken result ≡ limit_broken p n m proof marks values }
 {
-    let store = p.store;
-    if m <= 16384 {
-        if clauses::fits(store, n, proof, marks) {
-            if wide(larger(p.mapped.largest, m)) <= values {
-                return 0;
-            }
-        }
-        return 15;
+    if COPIES < m as usize {
+        return Err(Rule::OutOfRange);
     }
-    3
+    if !clauses::fits(p.store, n, proof, marks) {
+        return Err(Rule::TableFull);
+    }
+    if values < p.mapped.largest.max(m) as usize {
+        return Err(Rule::TableFull);
+    }
+    Ok(())
 }
 
 // One line more.

@@ -1,6 +1,6 @@
 -- What the answers of following, scanning and propagating give, and how they come about. Assumes nothing.
 use mathlib.Core.Path.{◌≡◌, refl, sym, subst}
-use mathlib.Core.Bool.{true, false}
+use mathlib.Core.Bool.{Bool, true, false}
 use mathlib.Core.List.{List}
 use Prim.Native.Nat.{ℕ, ◌+◌, ◌≤◌, ◌<◌}
 use native.Mathlib.Omega.{arith}
@@ -9,69 +9,75 @@ use borrow.Author.Count.{below_more}
 use Rattle.rules.proofs.Kit.{clear}
 use Rattle.rules.specs.Codes.{flip}
 use Rattle.propagation.specs.declared.looks.Look.TheVariants as look
-use Rattle.propagation.specs.declared.Visit.{Visit}
-use Rattle.propagation.specs.declared.Visit.TheVariants as visit
-use Rattle.propagation.specs.declared.Turn.{Turn}
-use Rattle.propagation.specs.declared.Turn.TheVariants as turn
 use Rattle.propagation.specs.declared.Scan.{Scan}
 use Rattle.propagation.specs.declared.Scan.TheVariants as scan
-use Rattle.propagation.specs.declared.Propagated.{Propagated}
-use Rattle.propagation.specs.declared.Propagated.TheVariants as propagated
+use Rattle.rules.specs.declared.Outcome.{Outcome}
+use Rattle.rules.specs.declared.Outcome.TheVariants as outcome
+use Rattle.std.specs.Prelude.{Option, Some, None}
 use Rattle.clauses.specs.Standing.{stands, clause_at, standing}
+use Rattle.trail.specs.declared.Trail.{Trail}
 use Rattle.trail.specs.Trail.{off, truth, Ready}
-use Rattle.propagation.specs.Answers.{In, Closed, Good, Saw, Moved, Clash, Visited, Turned, Scanned, Settled}
+use Rattle.propagation.specs.Answers.{In, Closed, Good, Saw, Moved, MovedIn, Clash, Visited, Turned, Scanned, Settled}
 use Rattle.propagation.proofs.MoveLaws.{moved_trans}
 use Rattle.clauses.proofs.StandingLaws.{standing_out}
 
-module _ {S : List (List ℕ)} {f₀ t₀ : List ℕ} {n₀ : ℕ} {f t : List ℕ} where
-  pub turned_clash : {r : Turn} → r ≡ turn.Conflict → Turned S f₀ t₀ n₀ f t r → Moved (Good S) f₀ t₀ n₀ f t n₀ × Clash (Good S) t₀ n₀
-  turned_clash e v = unfold Turned in subst (Turned S f₀ t₀ n₀ f t) e v
+module _ {S : List (List ℕ)} {f₀ t₀ : List ℕ} {n₀ : ℕ} {f t : List ℕ} {n : ℕ} where
+  pub turned_clash : {r : Option ℕ} → r ≡ None → Turned S f₀ t₀ n₀ f t n r → Moved (Good S) f₀ t₀ n₀ f t n × Clash (Good S) t₀ n₀
+  turned_clash e v = unfold Turned in let x = subst (Turned S f₀ t₀ n₀ f t n) e v in (x.1, x.2)
 
-  pub turned_moved : {r : Turn} {n w : ℕ} → r ≡ turn.Watch n w → Turned S f₀ t₀ n₀ f t r → Moved (Good S) f₀ t₀ n₀ f t n
-  turned_moved e v = unfold Turned in subst (Turned S f₀ t₀ n₀ f t) e v
+  pub turned_moved : {r : Option ℕ} {w : ℕ} → r ≡ Some w → Turned S f₀ t₀ n₀ f t n r → Moved (Good S) f₀ t₀ n₀ f t n
+  turned_moved e v = unfold Turned in subst (Turned S f₀ t₀ n₀ f t n) e v
 
-  pub visited_clash : {r : Visit} {n : ℕ} → r ≡ visit.Conflict n → Visited S f₀ t₀ n₀ f t r → Moved (Good S) f₀ t₀ n₀ f t n × Clash (Good S) t₀ n₀
-  visited_clash e v = unfold Visited in subst (Visited S f₀ t₀ n₀ f t) e v
+  pub visited_clash : {r : Outcome} → r ≡ outcome.Conflict → Visited S f₀ t₀ n₀ f t n r → Moved (Good S) f₀ t₀ n₀ f t n × Clash (Good S) t₀ n₀
+  visited_clash e v = unfold Visited in subst (Visited S f₀ t₀ n₀ f t n) e v
 
-  pub visited_moved : {r : Visit} {n : ℕ} → r ≡ visit.Go n → Visited S f₀ t₀ n₀ f t r → Moved (Good S) f₀ t₀ n₀ f t n
-  visited_moved e v = unfold Visited in subst (Visited S f₀ t₀ n₀ f t) e v
+  pub visited_moved : {r : Outcome} → r ≡ outcome.Stable → Visited S f₀ t₀ n₀ f t n r → Moved (Good S) f₀ t₀ n₀ f t n
+  visited_moved e v = unfold Visited in subst (Visited S f₀ t₀ n₀ f t n) e v
 
-  pub settled_clash : {r : Propagated} {n : ℕ} → r ≡ propagated.Conflict n → Settled S f₀ t₀ n₀ f t r → Moved (Good S) f₀ t₀ n₀ f t n × Clash (Good S) t₀ n₀
-  settled_clash e v = unfold Settled in subst (Settled S f₀ t₀ n₀ f t) e v
+  pub settled_clash : {r : Outcome} → r ≡ outcome.Conflict → Settled S f₀ t₀ n₀ f t n r → Moved (Good S) f₀ t₀ n₀ f t n × Clash (Good S) t₀ n₀
+  settled_clash e v = unfold Settled in subst (Settled S f₀ t₀ n₀ f t n) e v
 
-  pub settled_good : {r : Propagated} {n : ℕ} → r ≡ propagated.Stable n → Settled S f₀ t₀ n₀ f t r → Moved (Good S) f₀ t₀ n₀ f t n × Good S (truth f)
-  settled_good e v = unfold Settled in subst (Settled S f₀ t₀ n₀ f t) e v
+  pub settled_good : {r : Outcome} → r ≡ outcome.Stable → Settled S f₀ t₀ n₀ f t n r → Moved (Good S) f₀ t₀ n₀ f t n × Good S (truth f)
+  settled_good e v = unfold Settled in subst (Settled S f₀ t₀ n₀ f t n) e v
 
 -- after a move, of what follows it
 module _ {S : List (List ℕ)} {f₀ t₀ : List ℕ} {n₀ : ℕ} {f t : List ℕ} {n : ℕ} {f' t' : List ℕ} (m : Moved (Good S) f₀ t₀ n₀ f t n) where
   pub moved_on : {k : ℕ} → Moved (Good S) f t n f' t' k → Moved (Good S) f₀ t₀ n₀ f' t' k
   moved_on {k} v = moved_trans (Good S) f₀ t₀ n₀ f t n f' t' k m v
 
-  pub clash_on : {k : ℕ} → Moved (Good S) f t n f' t' k → Clash (Good S) t n → Visited S f₀ t₀ n₀ f' t' (visit.Conflict k)
+  pub clash_on : {k : ℕ} → Moved (Good S) f t n f' t' k → Clash (Good S) t n → Visited S f₀ t₀ n₀ f' t' k outcome.Conflict
   unfolding Visited
   clash_on v x = (moved_on v, λ Q g h. x Q g (m.sound Q g h))
 
-  pub settle_clash : {k : ℕ} → Moved (Good S) f t n f' t' k → Clash (Good S) t n → Settled S f₀ t₀ n₀ f' t' (propagated.Conflict k)
+  pub settle_clash : {k : ℕ} → Moved (Good S) f t n f' t' k → Clash (Good S) t n → Settled S f₀ t₀ n₀ f' t' k outcome.Conflict
   unfolding Settled
   settle_clash v x = (moved_on v, λ Q g h. x Q g (m.sound Q g h))
 
 pub settle_good : {S : List (List ℕ)} {f₀ t₀ : List ℕ} {n₀ : ℕ} {f t : List ℕ} {n : ℕ} → Moved (Good S) f₀ t₀ n₀ f t n → Good S (truth f)
-    → Settled S f₀ t₀ n₀ f t (propagated.Stable n)
+    → Settled S f₀ t₀ n₀ f t n outcome.Stable
 unfolding Settled
 settle_good m g = (m, g)
 
-pub visited_on : {S : List (List ℕ)} {f₀ t₀ : List ℕ} {n₀ : ℕ} {f t : List ℕ} {n : ℕ} (f' t' : List ℕ) → Moved (Good S) f₀ t₀ n₀ f t n
-    → (r : Visit) → Visited S f t n f' t' r → Visited S f₀ t₀ n₀ f' t' r
-visited_on f' t' m (visit.Conflict k) v = let c = visited_clash refl v in clash_on m c.0 c.1
-visited_on f' t' m (visit.Go k) v = unfold Visited in moved_on m (visited_moved refl v)
+pub visited_stable : {S : List (List ℕ)} {f₀ t₀ : List ℕ} {n₀ : ℕ} {f t : List ℕ} {n : ℕ} → Moved (Good S) f₀ t₀ n₀ f t n → Visited S f₀ t₀ n₀ f t n outcome.Stable
+unfolding Visited
+visited_stable m = m
+
+pub turned_some : {S : List (List ℕ)} {f₀ t₀ : List ℕ} {n₀ : ℕ} {f t : List ℕ} {n : ℕ} (w : ℕ) → Moved (Good S) f₀ t₀ n₀ f t n → Turned S f₀ t₀ n₀ f t n (Some w)
+unfolding Turned
+turned_some w m = m
+
+pub moved_as : {G : (ℕ → Bool) → Type 0} {a b c : Trail} → c ≡ b → MovedIn G a b → MovedIn G a c
+moved_as {G} {a} e m = subst (λ (x : Trail). MovedIn G a x) (sym e) m
+
+pub visited_on : {S : List (List ℕ)} {f₀ t₀ : List ℕ} {n₀ : ℕ} {f t : List ℕ} {n : ℕ} (f' t' : List ℕ) (n' : ℕ) → Moved (Good S) f₀ t₀ n₀ f t n
+    → (r : Outcome) → Visited S f t n f' t' n' r → Visited S f₀ t₀ n₀ f' t' n' r
+visited_on f' t' n' m outcome.Conflict v = let c = visited_clash refl v in clash_on m c.0 c.1
+visited_on f' t' n' m outcome.Stable v = unfold Visited in moved_on m (visited_moved refl v)
 
 -- A SCAN: each clause that stands at a place below k is closed
 pub record Scanning (t ms : List ℤ) (f : List ℕ) (count k : ℕ) : Type 0 where
   pub within : k ≤ count
   pub closed : (j : ℕ) → j < k → stands t ms j ≡ true → Closed (truth f) (clause_at t ms j)
-
-pub scanning_start : (t ms : List ℤ) (f : List ℕ) (count : ℕ) → Scanning t ms f count 0
-scanning_start t ms f count = record { within = omega arith; closed = λ j h. absurd (omega arith) }
 
 module _ (t ms : List ℤ) (f : List ℕ) (count k : ℕ) (s : Scanning t ms f count k) where
   pub scanning_next : k < count → (stands t ms k ≡ true → Closed (truth f) (clause_at t ms k)) → Scanning t ms f count (k + 1)

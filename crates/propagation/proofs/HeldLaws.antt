@@ -1,5 +1,5 @@
 -- What stays on the trail between lines follows from the standing clauses alone. Assumes nothing.
-use mathlib.Core.Path.{◌≡◌, sym, ◌∙◌, ap, subst}
+use mathlib.Core.Path.{◌≡◌, refl, sym, ◌∙◌, ap, subst}
 use mathlib.Core.List.Memᴰ
 use mathlib.Core.List.{List, [], ◌∷◌, ◌++◌}
 use Prim.Native.Nat.{ℕ, ◌<◌}
@@ -9,8 +9,7 @@ use Rattle.clauses.specs.declared.Store.{Store}
 use Rattle.clauses.specs.Standing.{standing, places_of, grown, pending, Pended, Stood}
 use Rattle.rules.specs.Literals.{Lits}
 use Rattle.rules.specs.Codes.{flip}
-use Rattle.propagation.specs.declared.Turn.{Turn}
-use Rattle.propagation.specs.declared.Turn.TheVariants as turn
+use Rattle.std.specs.Prelude.{Option, Some, None}
 use Rattle.trail.specs.Trail.{Ready}
 use Rattle.propagation.specs.Answers.{In, Good, Holds, Moved, Turned, Held}
 use Rattle.propagation.proofs.AnswerLaws.{turned_clash, turned_moved}
@@ -42,9 +41,7 @@ module _ {t ms : List ℤ} {s : Store} {k : ℕ} {f tr : List ℕ} {n : ℕ} whe
   held_stood w h = subst (λ S. Held S f tr n) (sym w.standing_then) (held_one (pending t s) h)
 
 -- after a clause was watched
-module _ {S : List (List ℕ)} {f₀ t₀ : List ℕ} {n₀ : ℕ} (h : Held S f₀ t₀ n₀) {f t : List ℕ} {r : Turn} (v : Turned S f₀ t₀ n₀ f t r) where
-  pub held_conflict : r ≡ turn.Conflict → Held S f t n₀
-  held_conflict e = held_moved h (turned_clash e v).0
-
-  pub held_watch : {n w : ℕ} → r ≡ turn.Watch n w → Held S f t n
-  held_watch e = held_moved h (turned_moved e v)
+module _ {S : List (List ℕ)} {f₀ t₀ : List ℕ} {n₀ : ℕ} (h : Held S f₀ t₀ n₀) {f t : List ℕ} {n : ℕ} where
+  pub held_turned : (r : Option ℕ) → Turned S f₀ t₀ n₀ f t n r → Held S f t n
+  held_turned None v = held_moved h (turned_clash refl v).0
+  held_turned (Some w) v = held_moved h (turned_moved refl v)

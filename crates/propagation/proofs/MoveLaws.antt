@@ -68,6 +68,10 @@ looking_start f c = record {
   means = subst (Means (truth f) (λ m. In m [])) (sym (look_none 0 refl)) (λ m x. absurd (Memᴰ.not-nil x));
 }
 
+-- from the whole clause on
+pub looking_at : (f c : List ℕ) {rest : List ℕ} → rest ≡ c → Looking f c rest 0
+looking_at f c e = subst (λ (x : List ℕ). Looking f c x 0) (sym e) (looking_start f c)
+
 sought : (f c : List ℕ) (r : Look) → Saw f c r → Sought f c r
 sought f c Falsified h = h
 sought f c (UnitOf l) h = h

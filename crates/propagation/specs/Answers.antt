@@ -1,20 +1,15 @@
 -- What the contracts of propagation say. A literal is its code. Assumes nothing.
-use Rattle.std.specs.Prelude.{◌≡◌, ◌⊎◌, Bool, true, false, ℕ, zero, suc, ◌≤◌, ◌<◌, get_or}
+use Rattle.std.specs.Prelude.{◌≡◌, ◌⊎◌, Bool, true, false, ℕ, zero, suc, ◌≤◌, ◌<◌, get_or, Option, Some, None}
 use mathlib.Core.List.{List, Memᴰ}
 use Rattle.rules.specs.Codes.{flip}
+use Rattle.trail.specs.declared.Trail.{Trail}
 use Rattle.trail.specs.Trail.{off, truth, Ready}
 use Rattle.propagation.specs.declared.looks.Look.{Look}
 use Rattle.propagation.specs.declared.looks.Look.TheVariants.{Falsified, Unit as UnitOf, Open}
-use Rattle.propagation.specs.declared.Visit.{Visit}
-use Rattle.propagation.specs.declared.Visit.TheVariants as visit
-use Rattle.propagation.specs.declared.Turn.{Turn}
-use Rattle.propagation.specs.declared.Turn.TheVariants as turn
 use Rattle.propagation.specs.declared.Scan.{Scan}
 use Rattle.propagation.specs.declared.Scan.TheVariants as scan
 use Rattle.rules.specs.declared.Outcome.{Outcome}
 use Rattle.rules.specs.declared.Outcome.TheVariants as outcome
-use Rattle.propagation.specs.declared.Propagated.{Propagated}
-use Rattle.propagation.specs.declared.Propagated.TheVariants as propagated
 
 abbrev pub In : {A : Type 0} → A → List A → Type 0
 In x xs = Memᴰ x xs
@@ -72,13 +67,14 @@ pub record Moved (G : (ℕ → Bool) → Type 0) (f₀ t₀ : List ℕ) (n₀ : 
 abbrev pub Clash : ((ℕ → Bool) → Type 0) → List ℕ → ℕ → Type 0
 Clash G t n = (Q : ℕ → Bool) → G Q → Holds Q t n → ⊥
 
-unfoldable pub Visited : List (List ℕ) → List ℕ → List ℕ → ℕ → List ℕ → List ℕ → Visit → Type 0
-Visited S f₀ t₀ n₀ f t (visit.Conflict n) = Moved (Good S) f₀ t₀ n₀ f t n × Clash (Good S) t₀ n₀
-Visited S f₀ t₀ n₀ f t (visit.Go n) = Moved (Good S) f₀ t₀ n₀ f t n
+unfoldable pub Visited : List (List ℕ) → List ℕ → List ℕ → ℕ → List ℕ → List ℕ → ℕ → Outcome → Type 0
+Visited S f₀ t₀ n₀ f t n outcome.Conflict = Moved (Good S) f₀ t₀ n₀ f t n × Clash (Good S) t₀ n₀
+Visited S f₀ t₀ n₀ f t n outcome.Stable = Moved (Good S) f₀ t₀ n₀ f t n
 
-unfoldable pub Turned : List (List ℕ) → List ℕ → List ℕ → ℕ → List ℕ → List ℕ → Turn → Type 0
-Turned S f₀ t₀ n₀ f t turn.Conflict = Moved (Good S) f₀ t₀ n₀ f t n₀ × Clash (Good S) t₀ n₀
-Turned S f₀ t₀ n₀ f t (turn.Watch n w) = Moved (Good S) f₀ t₀ n₀ f t n
+-- a clause came to a conflict, or has a literal to watch
+unfoldable pub Turned : List (List ℕ) → List ℕ → List ℕ → ℕ → List ℕ → List ℕ → ℕ → Option ℕ → Type 0
+Turned S f₀ t₀ n₀ f t n None = (n ≡ n₀) × Moved (Good S) f₀ t₀ n₀ f t n × Clash (Good S) t₀ n₀
+Turned S f₀ t₀ n₀ f t n (Some w) = Moved (Good S) f₀ t₀ n₀ f t n
 
 -- a clause that is falsified, or that makes a literal true, or none of either kind
 unfoldable pub Scanned : List (List ℕ) → List ℕ → Scan → Type 0
@@ -86,37 +82,34 @@ Scanned S f scan.Falsified = (c : List ℕ) × In c S × Saw f c Falsified
 Scanned S f (scan.Unit u) = (c : List ℕ) × In c S × Saw f c (UnitOf u) × (u < 65536) × (off f (flip u) ≡ false)
 Scanned S f scan.Closed = (c : List ℕ) → In c S → Closed (truth f) c
 
--- "Propagation answers conflict or stable, whatever the order of units": the outcome of an answer, and the trail's length in it
-abbrev pub outcome_of : Propagated → Outcome
-outcome_of (propagated.Conflict n) = outcome.Conflict
-outcome_of (propagated.Stable n) = outcome.Stable
-
-abbrev pub length_of : Propagated → ℕ
-length_of (propagated.Conflict n) = n
-length_of (propagated.Stable n) = n
-
--- no good test holds the trail at the start; or the values now are one
+-- "Propagation answers conflict or stable, whatever the order of units": no good test holds the trail at the start; or the values now are one
 abbrev pub Answers : List (List ℕ) → List ℕ → ℕ → List ℕ → Outcome → Type 0
 Answers S t₀ n₀ f outcome.Conflict = Clash (Good S) t₀ n₀
 Answers S t₀ n₀ f outcome.Stable = Good S (truth f)
 
-unfoldable pub Settled : List (List ℕ) → List ℕ → List ℕ → ℕ → List ℕ → List ℕ → Propagated → Type 0
-Settled S f₀ t₀ n₀ f t r = Moved (Good S) f₀ t₀ n₀ f t (length_of r) × Answers S t₀ n₀ f (outcome_of r)
+unfoldable pub Settled : List (List ℕ) → List ℕ → List ℕ → ℕ → List ℕ → List ℕ → ℕ → Outcome → Type 0
+Settled S f₀ t₀ n₀ f t n r = Moved (Good S) f₀ t₀ n₀ f t n × Answers S t₀ n₀ f r
 
 -- BETWEEN LINES: the trail follows from the standing clauses alone
 pub record Held (S : List (List ℕ)) (f t : List ℕ) (n : ℕ) : Type 0 where
   pub ready : Ready f t n
   pub based : (Q : ℕ → Bool) → Good S Q → Holds Q t n
 
--- AS CONTRACTS NAME THEM, the values and the trail
-abbrev pub HeldIn : List (List ℕ) → List ℕ → List ℕ → ℕ → Type 0
-HeldIn S f t n = Held S f t n
+-- AS CONTRACTS NAME THEM
+abbrev pub HeldIn : List (List ℕ) → Trail → Type 0
+HeldIn S a = Held S a.falses a.literals a.length
 
-abbrev pub VisitedIn : List (List ℕ) → List ℕ → List ℕ → ℕ → List ℕ → List ℕ → Visit → Type 0
-VisitedIn S f t n f' t' r = Visited S f t n f' t' r
+abbrev pub MovedIn : ((ℕ → Bool) → Type 0) → Trail → Trail → Type 0
+MovedIn G a b = Moved G a.falses a.literals a.length b.falses b.literals b.length
 
-abbrev pub TurnedIn : List (List ℕ) → List ℕ → List ℕ → ℕ → List ℕ → List ℕ → Turn → Type 0
-TurnedIn S f t n f' t' r = Turned S f t n f' t' r
+abbrev pub VisitedIn : List (List ℕ) → Trail → Trail → Outcome → Type 0
+VisitedIn S a b r = Visited S a.falses a.literals a.length b.falses b.literals b.length r
 
-abbrev pub SettledIn : List (List ℕ) → List ℕ → List ℕ → ℕ → List ℕ → List ℕ → Propagated → Type 0
-SettledIn S f t n f' t' r = Settled S f t n f' t' r
+abbrev pub TurnedIn : List (List ℕ) → Trail → Trail → Option ℕ → Type 0
+TurnedIn S a b r = Turned S a.falses a.literals a.length b.falses b.literals b.length r
+
+abbrev pub ScannedIn : List (List ℕ) → Trail → Scan → Type 0
+ScannedIn S a r = Scanned S a.falses r
+
+abbrev pub SettledIn : List (List ℕ) → Trail → Trail → Outcome → Type 0
+SettledIn S a b r = Settled S a.falses a.literals a.length b.falses b.literals b.length r

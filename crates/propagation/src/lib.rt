@@ -2,37 +2,30 @@
 #![tactic(auto)]
 
 ghost use Rattle.std.specs.Prelude.{◌<◌};
-ghost use Rattle.clauses.specs.Standing.{standing_in};
+ghost use Rattle.clauses.specs.Standing.{standing_of};
 ghost use Rattle.trail.specs.Trail.{ReadyIn};
-ghost use Rattle.propagation.specs.Answers.{Scanned, VisitedIn, TurnedIn, SettledIn, HeldIn};
+ghost use Rattle.propagation.specs.Answers.{ScannedIn, VisitedIn, TurnedIn, SettledIn, HeldIn};
 
-use cells::wide;
-use clauses::{clause, stands};
+use clauses::Standing;
 use looks::{Look, another, read_clause, seek};
-use trail::{Falses, Trail, is_true, make_true, wide16};
-use watches::{first, following, partner, seems_true, watch, watch_instead};
+use rules::Outcome;
+use trail::Trail;
+use watching::{first, following, partner, seems_true, watch, watch_instead};
 
 mod looks;
-mod watches;
+mod watching;
 
-pub type Watches = [u32; 458752];
+// Watched literals: for each literal the first node that watches it, for each node the next of its list, and for each clause the exclusive or of
+// the two literals that it watches.
+#[derive(Drop)]
+pub struct Watches {
+    pub first: [u32; 65536],
+    pub next: [u32; 262144],
+    pub pair: [u32; 131072],
+}
 
 // Ends each list of watches; at the start all of them are empty.
 pub const END: u32 = 4294967295;
-
-// Following watches: the trail's length, after a conflict or so far.
-#[derive(Clone, Copy)]
-pub enum Visit {
-    Conflict(usize),
-    Go(usize),
-}
-
-// What the clause of a watch came to: a conflict, or the trail's length and a literal to watch.
-#[derive(Clone, Copy)]
-pub enum Turn {
-    Conflict,
-    Watch(usize, u32),
-}
 
 // A look at all standing clauses.
 #[derive(Clone, Copy)]
@@ -42,138 +35,79 @@ pub enum Scan {
     Closed,
 }
 
-// "Propagation answers conflict or stable", with the trail's length.
-#[derive(Clone, Copy)]
-pub enum Propagated {
-    Conflict(usize),
-    Stable(usize),
-}
-
-// What follows from the standing clauses alone: the trail's length, and the place up to which its watches are followed.
-#[derive(Clone, Copy)]
-pub struct Units {
-    pub n: usize,
-    pub q: usize,
-}
-
-// The clause at place k, of which o and a literal that became false are watched.
-fn judge(
-    table: &[i32],
-    marks: &[i32],
-    count: usize,
-    falses: &mut Falses,
-    trail: &mut Trail,
-    n: usize,
-    k: usize,
-    o: u32,
-) -> Turn
-    ensures { ReadyIn falses.old trail.old n → (k < count)
-        → TurnedIn (standing_in table.now marks.now count)
-        falses.old trail.old n falses.new trail.new result }
+// A literal for the clause at place k to watch in place of one that became false, where o is the other that it watches. None: a conflict.
+fn judge(standing: Standing, trail: &mut Trail, k: usize, o: u32) -> Option<u32>
+    ensures { ReadyIn trail.old → (k < standing.entry.count)
+        → TurnedIn (standing_of standing.entry) trail.old trail.new result }
 {
-    if stands(table, marks, k) {
-        return match seek(table, falses, clause(table, marks, k), o) {
-            Look::Falsified => Turn::Conflict,
-            Look::Unit(u) => Turn::Watch(make_true(falses, trail, n, u), u),
-            Look::Open(a, _) => Turn::Watch(n, a),
+    if standing.stands(k) {
+        return match seek(standing.clause(k), trail, o) {
+            Look::Falsified => None,
+            Look::Unit(u) => {
+                trail.make_true(u);
+                Some(u)
+            }
+            Look::Open(a, _) => Some(a),
         };
     }
     if o == 1 {
-        return Turn::Watch(n, 65535);
+        return Some(65535);
     }
-    Turn::Watch(n, 1)
+    Some(1)
 }
 
 // The clauses that watch l, which is false. The lists may be cyclic for all that is known of them: the walk ends after as many steps as there are nodes.
-fn walk(
-    table: &[i32],
-    marks: &[i32],
-    count: usize,
-    falses: &mut Falses,
-    trail: &mut Trail,
-    from: usize,
-    watches: &mut Watches,
-    l: u32,
-) -> Visit
-    ensures { ReadyIn falses.old trail.old from
-        → VisitedIn (standing_in table.now marks.now count)
-        falses.old trail.old from falses.new trail.new result }
+fn walk(standing: Standing, trail: &mut Trail, watches: &mut Watches, l: u32) -> Outcome
+    ensures { ReadyIn trail.old → VisitedIn (standing_of standing.entry) trail.old trail.new result }
 {
-    let mut n = from;
     let mut before: u32 = END;
     let mut p = first(watches, l);
-    let mut steps: u32 = 262144;
-    while 0 < steps {
-        steps -= 1;
-        let k = wide(p / 2);
-        if count <= k {
-            return Visit::Go(n);
+    for _ in 0..262144u32 {
+        let k = (p / 2) as usize;
+        if standing.count <= k {
+            return Outcome::Stable;
         }
         let o = partner(watches, p, l);
         let after = following(watches, p);
-        if seems_true(falses, o) {
+        if seems_true(trail, o) {
             before = p;
-            p = after;
         } else {
-            match judge(table, marks, count, falses, trail, n, k, o) {
-                Turn::Conflict => return Visit::Conflict(n),
-                Turn::Watch(j, w) => {
-                    n = j;
-                    before = watch_instead(watches, l, before, p, after, w, o);
-                    p = after;
-                }
-            }
+            let Some(w) = judge(standing, trail, k, o) else {
+                return Outcome::Conflict;
+            };
+            before = watch_instead(watches, l, before, p, after, w, o);
         }
+        p = after;
     }
-    Visit::Go(n)
+    Outcome::Stable
 }
 
 // The watches of what became false from place q of the trail on.
-fn follow(
-    table: &[i32],
-    marks: &[i32],
-    count: usize,
-    falses: &mut Falses,
-    trail: &mut Trail,
-    q: usize,
-    from: usize,
-    watches: &mut Watches,
-) -> Visit
-    ensures { ReadyIn falses.old trail.old from
-        → VisitedIn (standing_in table.now marks.now count)
-        falses.old trail.old from falses.new trail.new result }
+fn follow(standing: Standing, trail: &mut Trail, q: usize, watches: &mut Watches) -> Outcome
+    ensures { ReadyIn trail.old → VisitedIn (standing_of standing.entry) trail.old trail.new result }
 {
-    let mut n = from;
-    let mut i = q;
-    while i < n {
-        if 65536 <= i {
-            return Visit::Go(n);
+    for i in q..65536 {
+        if trail.length <= i {
+            return Outcome::Stable;
         }
-        let l = wide16(trail[i]);
-        i += 1;
-        match walk(table, marks, count, falses, trail, n, watches, l) {
-            Visit::Conflict(k) => return Visit::Conflict(k),
-            Visit::Go(k) => {
-                n = k;
-            }
-        }
+        let l = trail.literal_at(i);
+        let Outcome::Stable = walk(standing, trail, watches, l) else {
+            return Outcome::Conflict;
+        };
     }
-    Visit::Go(n)
+    Outcome::Stable
 }
 
 // What a look at every standing clause finds.
-fn scan_all(table: &[i32], marks: &[i32], count: usize, falses: &Falses) -> Scan
-    ensures { Scanned (standing_in table.now marks.now count) falses.now result }
+fn scan_all(standing: Standing, trail: &Trail) -> Scan
+    ensures { ScannedIn (standing_of standing.entry) trail.now result }
 {
-    let mut k = 0;
-    while k < count {
-        let at = k;
-        k += 1;
-        if stands(table, marks, at) {
-            match read_clause(table, falses, clause(table, marks, at)) {
+    for place in 0..standing.count {
+        if standing.stands(place) {
+            match read_clause(standing.clause(place), trail) {
                 Look::Falsified => return Scan::Falsified,
                 Look::Unit(u) => {
-                    if !is_true(falses, u) {
+                    if !trail.is_true(u) {
                         return Scan::Unit(u);
                     }
                 }
@@ -184,120 +118,79 @@ fn scan_all(table: &[i32], marks: &[i32], count: usize, falses: &Falses) -> Scan
     Scan::Closed
 }
 
-// Propagation: what the watches find, until a scan finds nothing more.
-pub fn propagate(
-    table: &[i32],
-    marks: &[i32],
-    count: usize,
-    falses: &mut Falses,
-    trail: &mut Trail,
-    q: usize,
-    from: usize,
-    watches: &mut Watches,
-) -> Propagated
-    ensures { ReadyIn falses.old trail.old from
-        → SettledIn (standing_in table.now marks.now count)
-        falses.old trail.old from falses.new trail.new result }
+// Propagation: what the watches find, until a scan finds nothing more. The watches of the trail are followed up to place q.
+pub fn propagate(standing: Standing, trail: &mut Trail, q: usize, watches: &mut Watches) -> Outcome
+    ensures { ReadyIn trail.old → SettledIn (standing_of standing.entry) trail.old trail.new result }
 {
-    let mut n = from;
-    let mut i = q;
-    let mut steps: u32 = 65536;
-    while 0 < steps {
-        steps -= 1;
-        match follow(table, marks, count, falses, trail, i, n, watches) {
-            Visit::Conflict(k) => return Propagated::Conflict(k),
-            Visit::Go(k) => {
-                n = k;
-            }
-        }
-        i = n;
-        match scan_all(table, marks, count, falses) {
-            Scan::Falsified => return Propagated::Conflict(n),
-            Scan::Closed => return Propagated::Stable(n),
-            Scan::Unit(u) => {
-                n = make_true(falses, trail, n, u);
-            }
+    let mut followed = q;
+    for _ in 0..65536u32 {
+        let Outcome::Stable = follow(standing, trail, followed, watches) else {
+            return Outcome::Conflict;
+        };
+        followed = trail.length;
+        match scan_all(standing, trail) {
+            Scan::Falsified => return Outcome::Conflict,
+            Scan::Closed => return Outcome::Stable,
+            Scan::Unit(u) => trail.make_true(u),
         }
     }
-    Propagated::Conflict(n)
+    Outcome::Conflict
 }
 
 // What follows from the standing clauses alone; the watches of the trail are followed up to place q.
-pub fn ground(
-    table: &[i32],
-    marks: &[i32],
-    count: usize,
-    falses: &mut Falses,
-    trail: &mut Trail,
-    q: usize,
-    from: usize,
-    watches: &mut Watches,
-) -> Visit
-    ensures { ReadyIn falses.old trail.old from
-        → VisitedIn (standing_in table.now marks.now count)
-        falses.old trail.old from falses.new trail.new result }
+pub fn ground(standing: Standing, trail: &mut Trail, q: usize, watches: &mut Watches) -> Outcome
+    ensures { ReadyIn trail.old → VisitedIn (standing_of standing.entry) trail.old trail.new result }
 {
     if q != 0 {
-        return follow(table, marks, count, falses, trail, q, from, watches);
+        return follow(standing, trail, q, watches);
     }
-    match walk(table, marks, count, falses, trail, from, watches, 0) {
-        Visit::Conflict(k) => Visit::Conflict(k),
-        Visit::Go(k) => follow(table, marks, count, falses, trail, 0, k, watches),
-    }
+    let Outcome::Stable = walk(standing, trail, watches, 0) else {
+        return Outcome::Conflict;
+    };
+    follow(standing, trail, 0, watches)
 }
 
-// The clause at place k is watched from now on; a literal that it makes true goes on the trail.
+// The clause at place k is watched from now on; a literal that it makes true goes on the trail. None: a conflict.
 fn watch_clause(
-    table: &[i32],
-    marks: &[i32],
-    count: usize,
-    falses: &mut Falses,
+    standing: Standing,
     trail: &mut Trail,
-    n: usize,
     watches: &mut Watches,
     k: usize,
-) -> Turn
-    ensures { ReadyIn falses.old trail.old n → (k < count)
-        → TurnedIn (standing_in table.now marks.now count)
-        falses.old trail.old n falses.new trail.new result }
+) -> Option<u32>
+    ensures { ReadyIn trail.old → (k < standing.entry.count)
+        → TurnedIn (standing_of standing.entry) trail.old trail.new result }
 {
-    let start = clause(table, marks, k);
-    match read_clause(table, falses, start) {
+    let clause = standing.clause(k);
+    match read_clause(clause, trail) {
         Look::Open(a, b) => {
-            watch(watches, k, a, b);
-            Turn::Watch(n, 1)
+            watch(watches, k, a, Some(b));
+            Some(1)
         }
         Look::Unit(a) => {
-            watch(watches, k, a, another(table, start, a));
-            judge(table, marks, count, falses, trail, n, k, a)
+            watch(watches, k, a, another(clause, a));
+            judge(standing, trail, k, a)
         }
         Look::Falsified => {
-            let a = another(table, start, 0);
-            watch(watches, k, a, another(table, start, a));
-            judge(table, marks, count, falses, trail, n, k, 0)
+            let a = another(clause, 0).unwrap_or(0);
+            watch(watches, k, a, another(clause, a));
+            judge(standing, trail, k, 0)
         }
     }
 }
 
-// The clause at place k, which is new, is watched from now on.
+// The clause at place k, which is new, is watched from now on; up to where the watches of the trail are followed then.
 pub fn attach(
-    table: &[i32],
-    marks: &[i32],
-    count: usize,
-    falses: &mut Falses,
+    standing: Standing,
     trail: &mut Trail,
-    units: Units,
+    q: usize,
     watches: &mut Watches,
     k: usize,
-) -> Units
-    ensures { HeldIn (standing_in table.now marks.now count) falses.old trail.old units.n
-        → (k < count)
-        → HeldIn (standing_in table.now marks.now count) falses.new trail.new result.n }
+) -> usize
+    ensures { HeldIn (standing_of standing.entry) trail.old → (k < standing.entry.count)
+        → HeldIn (standing_of standing.entry) trail.new }
 {
-    let n = units.n;
-    let q = units.q;
-    match watch_clause(table, marks, count, falses, trail, n, watches, k) {
-        Turn::Conflict => Units { n: n, q: 0 },
-        Turn::Watch(j, _) => Units { n: j, q: q },
+    match watch_clause(standing, trail, watches, k) {
+        None => 0,
+        Some(_) => q,
     }
 }

@@ -1,10 +1,10 @@
 // Reading a clause under the values.
 ghost use Rattle.std.specs.Prelude.{◌≡◌};
-ghost use Rattle.clauses.specs.Standing.{literals_in};
+ghost use Rattle.cells.specs.Codes.{codes_left};
 ghost use Rattle.propagation.specs.Answers.{look_of, Saw, Sought};
 
-use clauses::{Cursor, after, literal};
-use trail::{Falses, is_off};
+use cells::Codes;
+use trail::Trail;
 
 // The distinct literals of a clause that are not false: none, one, or two of more.
 #[derive(Clone, Copy)]
@@ -25,18 +25,12 @@ fn looked(one: u32) -> Look
 }
 
 // A clause up to the second distinct literal that is not false.
-pub fn read_clause(table: &[i32], falses: &Falses, start: Cursor) -> Look
-    ensures { Saw falses.now (literals_in table.now start) result }
+pub fn read_clause(clause: Codes, trail: &Trail) -> Look
+    ensures { Saw trail.now.falses (codes_left clause.entry) result }
 {
-    let mut i = start;
     let mut one: u32 = 0;
-    loop {
-        let l = literal(table, i);
-        if l == 0 {
-            return looked(one);
-        }
-        i = after(table, i);
-        if !is_off(falses, l) {
+    for l in clause {
+        if !trail.is_off(l) {
             if one == 0 {
                 one = l;
             } else if l != one {
@@ -44,40 +38,26 @@ pub fn read_clause(table: &[i32], falses: &Falses, start: Cursor) -> Look
             }
         }
     }
+    looked(one)
 }
 
 // The same, up to the first literal that is not false and not o.
-pub fn seek(table: &[i32], falses: &Falses, start: Cursor, o: u32) -> Look
-    ensures { Sought falses.now (literals_in table.now start) result }
+pub fn seek(clause: Codes, trail: &Trail, o: u32) -> Look
+    ensures { Sought trail.now.falses (codes_left clause.entry) result }
 {
-    let mut i = start;
     let mut one: u32 = 0;
-    loop {
-        let l = literal(table, i);
-        if l == 0 {
-            return looked(one);
-        }
-        i = after(table, i);
-        if !is_off(falses, l) {
+    for l in clause {
+        if !trail.is_off(l) {
             if l != o {
                 return Look::Open(l, l);
             }
             one = l;
         }
     }
+    looked(one)
 }
 
-// A literal of a clause other than a, or 0.
-pub fn another(table: &[i32], start: Cursor, a: u32) -> u32 {
-    let mut i = start;
-    loop {
-        let l = literal(table, i);
-        if l == 0 {
-            return 0;
-        }
-        i = after(table, i);
-        if l != a {
-            return l;
-        }
-    }
+// A literal of a clause other than a.
+pub fn another(mut clause: Codes, a: u32) -> Option<u32> {
+    clause.find(|l| *l != a)
 }

@@ -8,7 +8,11 @@ use lib.Dec.{leb}
 use borrow.Author.Tests.{le-leb, lt-leb}
 use lib.IntN.{ℤ}
 use lib.ListN.{length}
+use Rattle.std.specs.Prelude.{Result, Ok, Err}
 use Rattle.cells.specs.Cells.{Kept}
+use Rattle.rules.specs.Rule.{of_file}
+use Rattle.rules.specs.declared.Rule.TheVariants.{Overlong}
+use Rattle.rules.specs.declared.Refusal.{Refusal}
 use Rattle.rules.specs.Formula.{Formula}
 use Rattle.rules.specs.Needs.{Places, places, formula_needs, formula_needs_so_far}
 use Rattle.rules.specs.Limits.{Limits, limits}
@@ -20,15 +24,13 @@ use Rattle.rules.specs.declared.Verdict.{Verdict}
 use Rattle.rules.specs.declared.Verdict.TheVariants.{Accepted, Refused}
 use Rattle.rules.specs.declared.Report.{Report}
 use Rattle.formula.specs.declared.Reading.{Reading}
-use Rattle.formula.specs.declared.Answer.{Answer}
-use Rattle.formula.specs.declared.Answer.TheVariants as answer
-use Rattle.formula.specs.Answers.{Answers, Answered, reading, read_state}
+use Rattle.formula.specs.Answers.{Answer, Answers, Answered, reading, read_state}
 use Rattle.tables.specs.Tables.{Tables, tables, lengths_of, KeptAll}
 use Rattle.tables.specs.Checked.{CheckedBy}
 use Rattle.tables.proofs.Frames.{same_lengths, all_self, Below, below_self, all_then}
 use Rattle.reading.specs.declared.Ended.{Ended}
-use Rattle.reading.specs.declared.Ended.TheVariants as end_of_lem
-use Rattle.reading.specs.Ends.{report_of, refused_early, EndedAs}
+use Rattle.reading.specs.declared.Counts.{Counts}
+use Rattle.reading.specs.Ends.{report_of, refused_early, EndedWith, EndedAs}
 use Rattle.reading.specs.Lines.{Rules, read_by, Code, FormulaChecked}
 use Rattle.reading.proofs.StageLaws.{below_then, Keeps}
 use Rattle.reading.proofs.GoingLaws.{Apt}
@@ -62,14 +64,18 @@ module _ {S : Type 0} (R : Rules S) (t u w : Tables) (f : Formula) (k : KeptAll 
   abbrev Reported : Checked → Report → Type 0
   Reported c r = (r ≡ c.report) × KeptAll c.needs t w
 
+  reported_with : (x : rules.Read S) (o : Result (Unit {0}) Refusal) (c : Counts) → EndedWith R.part u x o c w → Below (formula_needs f) (R.part (read_state x)).needs
+      → Reported (of_lines R.part x) (report_of (record { outcome = o; counts = c }))
+  reported_with (rules.ended s) (Ok y) c h b =
+      ((λ i. record { verdict = Accepted; expansions = h.0.expansions i; additions = h.0.additions i; deletions = h.0.deletions i }), all_then b k h.1)
+  reported_with (rules.ended s) (Err refusal) c h b = absurd h
+  reported_with (rules.refused_at n m s) (Ok y) c h b = absurd h
+  reported_with (rules.refused_at n m s) (Err refusal) c h b =
+      ((λ i. record { verdict = Refused (h.0 i) 2 (h.1 i); expansions = h.2.expansions i; additions = h.2.additions i; deletions = h.2.deletions i }), all_then b k h.3)
+
   reported : (x : rules.Read S) (e : Ended) → EndedAs R.part u x e w → Below (formula_needs f) (R.part (read_state x)).needs
       → Reported (of_lines R.part x) (report_of e)
-  reported (rules.ended s) (end_of_lem.Closed c) h b =
-      ((λ i. record { verdict = Accepted; expansions = h.0.expansions i; additions = h.0.additions i; deletions = h.0.deletions i }), all_then b k h.1)
-  reported (rules.ended s) (end_of_lem.Refused n line c) h b = absurd h
-  reported (rules.refused_at n m s) (end_of_lem.Closed c) h b = absurd h
-  reported (rules.refused_at n m s) (end_of_lem.Refused j line c) h b =
-      ((λ i. record { verdict = Refused (h.0 i) 2 (h.1 i); expansions = h.2.expansions i; additions = h.2.additions i; deletions = h.2.deletions i }), all_then b k h.3)
+  reported x e h b = reported_with x e.outcome e.counts h b
 
 module _ {S P W : Type 0} (R : Rules S) (C : Code S P W) (apt : Apt R C) (Range : Verdict → Type 0) (bs cs : List ℕ) (t : Tables) where
   abbrev L : Limits
@@ -106,11 +112,11 @@ module _ {S P W : Type 0} (R : Rules S) (C : Code S P W) (apt : Apt R C) (Range 
 
   module _ (within : Within) where
     -- "1 overlong", of the formula and of the certificate
-    pub overlong_formula : 1048576 < length bs → (r : Report) → r ≡ refused_early 1 1 0 → Promised r t
+    pub overlong_formula : 1048576 < length bs → (r : Report) → r ≡ refused_early (of_file Overlong) 1 → Promised r t
     overlong_formula h r e = told within r t false (leb (length cs) 1048576) (lt-leb (length bs) 1048576 h) refl e (all_self _ t)
 
     module _ (a : length bs ≤ 1048576) where
-      pub overlong_certificate : 1048576 < length cs → (r : Report) → r ≡ refused_early 1 2 0 → Promised r t
+      pub overlong_certificate : 1048576 < length cs → (r : Report) → r ≡ refused_early (of_file Overlong) 2 → Promised r t
       overlong_certificate h r e = told within r t true false (le-leb (length bs) 1048576 a) (lt-leb (length cs) 1048576 h) e (all_self _ t)
 
       module _ (b : length cs ≤ 1048576) (p m : List ℤ) {y : Answer} (h : Answered bs t.prefix t.matrix y p m) where
@@ -130,19 +136,19 @@ module _ {S P W : Type 0} (R : Rules S) (C : Code S P W) (apt : Apt R C) (Range 
         checked : (r : Report) (u : Tables) → r ≡ inner.report → KeptAll inner.needs t u → Promised r u
         checked r u i k = told within r u true true (le-leb (length bs) 1048576 a) (le-leb (length cs) 1048576 b) i k
 
-        pub formula_refused : (k line : ℕ) → y ≡ answer.Refused k line → (r : Report) → r ≡ refused_early k 1 line → Promised r read
-        formula_refused k line e r i =
+        pub formula_refused : (refusal : Refusal) → y ≡ Err refusal → (r : Report) → r ≡ refused_early refusal 1 → Promised r read
+        formula_refused refusal e r i =
             let o = go (read_formula L bs) (subst (λ z. Answers (read_formula L bs) t.prefix t.matrix z p m) e answers) in
             checked r read (i ∙ o.0) o.1
           where
-            go : (x : rules.Read (Option Formula)) → Answers x t.prefix t.matrix (answer.Refused k line) p m
-                → (refused_early k 1 line ≡ (of_formula x (lines L)).report) × KeptAll (of_formula x (lines L)).needs t read
-            go (rules.ended none) o = ((λ j. refused_early (o.answer.0 j) 1 (o.answer.1 j)), kept (places 0 0 0 0 0 0) o.prefix o.matrix)
+            go : (x : rules.Read (Option Formula)) → Answers x t.prefix t.matrix (Err refusal) p m
+                → (refused_early refusal 1 ≡ (of_formula x (lines L)).report) × KeptAll (of_formula x (lines L)).needs t read
+            go (rules.ended none) o = ((λ j. record { verdict = Refused (o.answer.0 j) 1 (o.answer.1 j); expansions = 0; additions = 0; deletions = 0 }), kept (places 0 0 0 0 0 0) o.prefix o.matrix)
             go (rules.ended (some f)) o = absurd o.answer
-            go (rules.refused_at n i s) o = ((λ j. refused_early (o.answer.0 j) 1 (o.answer.1 j)), kept (formula_needs_so_far s) o.prefix o.matrix)
+            go (rules.refused_at n i s) o = ((λ j. record { verdict = Refused (o.answer.0 j) 1 (o.answer.1 j); expansions = 0; additions = 0; deletions = 0 }), kept (formula_needs_so_far s) o.prefix o.matrix)
 
-        module _ (r : Reading) (e : y ≡ answer.Done r) where
-          done : Answers (read_formula L bs) t.prefix t.matrix (answer.Done r) p m
+        module _ (r : Reading) (e : y ≡ Ok r) where
+          done : Answers (read_formula L bs) t.prefix t.matrix (Ok r) p m
           done = subst (λ z. Answers (read_formula L bs) t.prefix t.matrix z p m) e answers
 
           pub certificate_checked : (x : Ended) (w : Tables) → FormulaChecked R cs r read x w → (y : Report) → y ≡ report_of x → Promised y w
@@ -150,7 +156,7 @@ module _ {S P W : Type 0} (R : Rules S) (C : Code S P W) (apt : Apt R C) (Range 
               let o = go (read_formula L bs) done in
               checked y w (i ∙ o.0) o.1
             where
-              go : (z : rules.Read (Option Formula)) → Answers z t.prefix t.matrix (answer.Done r) p m
+              go : (z : rules.Read (Option Formula)) → Answers z t.prefix t.matrix (Ok r) p m
                   → (report_of x ≡ (of_formula z (lines L)).report) × KeptAll (of_formula z (lines L)).needs t w
               go (rules.ended none) o = absurd o.answer
               go (rules.ended (some f)) o =

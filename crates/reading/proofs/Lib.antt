@@ -1,5 +1,4 @@
 -- Laws of the reading of a certificate, whatever its kind.
-pub mod EndLaws
 pub mod StageLaws
 pub mod GoingLaws
 pub mod LineLaws

@@ -2,13 +2,14 @@
 use mathlib.Core.Path.{◌≡◌, refl, ap₂, sym, ◌∙◌, subst}
 use mathlib.Core.Bool.{Bool, true, false, ◌&&◌}
 use mathlib.Core.List.{List, ◌++◌}
-use mathlib.Core.Logic.{◌⊎◌, inl, inr}
 use mathlib.Core.Option.{Option, none, some}
 use Prim.Native.Nat.{ℕ, ◌+◌, ◌*◌, ◌≤◌}
 use native.Mathlib.Omega.{arith}
 use lib.Dec.{leb}
 use lib.ListN.{length}
 use borrow.Author.Tests.{leb-true, leb-false}
+use Rattle.std.specs.Prelude.{Result, Ok, Err}
+use Rattle.rules.specs.declared.Rule.{Rule}
 use Rattle.lines.specs.Lists.{all}
 use Rattle.lines.specs.Scan.{tokens_from}
 use Rattle.cells.specs.Cells.{Kept}
@@ -26,8 +27,6 @@ use Rattle.tables.specs.Tables.{Tables, tables, lengths_of, KeptAll}
 use Rattle.tables.proofs.Frames.{all_self}
 use Rattle.tables.proofs.Rooms.{Room, fits_room, room_fits, no_room, places_same}
 use Rattle.mapping.specs.declared.Mapped.{Mapped}
-use Rattle.mapping.specs.declared.Answer.{Answer}
-use Rattle.mapping.specs.declared.Answer.TheVariants as answer
 use Rattle.mapping.specs.MappingLine as mapping_line
 use Rattle.mapping.specs.MappingLine.{Lent, after, refusal, Before, After, Unwritten, MappingLine}
 use Rattle.reading.specs.Lines.{Rules, Code, Leads}
@@ -111,9 +110,9 @@ module _ {S P W : Type 0} (R : Rules S) (C : Code S P W) where
     pub weight : (after m ps es ls).used ≤ m.used + n → C.weight (with (after m ps es ls)) ≤ C.weight p + 3 * n
 
   -- the code's step
-  abbrev pub step_by : (Mapped → P) → Answer → P ⊎ ℕ
-  step_by with (answer.Next m) = inl (with m)
-  step_by with (answer.Refuse k) = inr k
+  abbrev pub step_by : (Mapped → P) → Result Mapped Rule → Result P Rule
+  step_by with (Ok m) = Ok (with m)
+  step_by with (Err k) = Err k
 
   module _ {n : ℕ} {p : P} {t : Tables} {turn : Bool} {v : ℕ} {m : Mapped} {noted : List ℕ} {with : Mapped → P} {noting : List ℕ → W} {f : Formula} {s : S}
       {ps es : List ℕ} {ls : Lits} {step : rules.Step S} (k : MapsBy n p t turn v m noted with noting f s ps es ls step) (u : Lent) where
@@ -131,25 +130,25 @@ module _ {S P W : Type 0} (R : Rules S) (C : Code S P W) where
 
     -- the rules' number and the step
     by : (x y z : Bool) (o : Option ℕ) → room t m k.a k.b k.d k.e ps es ls ≡ z → length u.map ≡ length t.map
-        → length u.values ≡ length t.values → (r : Answer)
+        → length u.values ≡ length t.values → (r : Result Mapped Rule)
         → mapping_line.Leads n m (lent_of t noted) f (k.mapped ++ copies ps es ls) (after m ps es ls) (2 unless x then 3 unless y then 15 unless z then o) r u
         → Leads R C f p n t (refuse_in s (2 unless x then 3 unless y) (refuse_in k.needing (15 unless z then o) (rules.next k.accepted))) (step_by with r)
         (mapped_in t u) (noting u.noted)
-    by false y z o e long wide (answer.Next q) d = absurd d
-    by false y z o e long wide (answer.Refuse j) d = (d.0, unwritten t noted u (R.part s).needs d.1)
-    by true false z o e long wide (answer.Next q) d = absurd d
-    by true false z o e long wide (answer.Refuse j) d = (d.0, unwritten t noted u (R.part s).needs d.1)
-    by true true false o e long wide (answer.Next q) d = absurd d
-    by true true false o e long wide (answer.Refuse j) d = (d.0, unwritten t noted u (R.part k.needing).needs d.1)
-    by true true true (some i) e long wide (answer.Next q) d = absurd d
-    by true true true (some i) e long wide (answer.Refuse j) d = (d.0, unwritten t noted u (R.part k.needing).needs d.1)
-    by true true true none e long wide (answer.Refuse j) d = absurd d
-    by true true true none e long wide (answer.Next q) d =
-        subst (λ q. Leads R C f p n t (rules.next k.accepted) (inl (with q)) (mapped_in t u) (noting u.noted)) (sym d.0)
+    by false y z o e long wide (Ok q) d = absurd d
+    by false y z o e long wide (Err j) d = (d.0, unwritten t noted u (R.part s).needs d.1)
+    by true false z o e long wide (Ok q) d = absurd d
+    by true false z o e long wide (Err j) d = (d.0, unwritten t noted u (R.part s).needs d.1)
+    by true true false o e long wide (Ok q) d = absurd d
+    by true true false o e long wide (Err j) d = (d.0, unwritten t noted u (R.part k.needing).needs d.1)
+    by true true true (some i) e long wide (Ok q) d = absurd d
+    by true true true (some i) e long wide (Err j) d = (d.0, unwritten t noted u (R.part k.needing).needs d.1)
+    by true true true none e long wide (Err j) d = absurd d
+    by true true true none e long wide (Ok q) d =
+        subst (λ q. Leads R C f p n t (rules.next k.accepted) (Ok (with q)) (mapped_in t u) (noting u.noted)) (sym d.0)
         (k.shown u d.1 long wide e, kept d.1, k.weight d.1.grows)
 
     -- THE LINE'S STEP
-    pub maps_step : {bs : List ℕ} → n ≡ length bs → (at : ℕ) {r : Answer} → MappingLine bs at turn v m t.prefix (lent_of t noted) r u
+    pub maps_step : {bs : List ℕ} → n ≡ length bs → (at : ℕ) {r : Result Mapped Rule} → MappingLine bs at turn v m t.prefix (lent_of t noted) r u
         → mapping_form (tokens_from bs at) ≡ some (mapping ps es ls) → Leads R C f p n t step (step_by with r) (mapped_in t u) (noting u.noted)
     unfolding refusal
     maps_step {bs} g at {r} x h =

@@ -1,26 +1,37 @@
 -- How the reading of a certificate ends, and the report of it. Assumes nothing.
-use Rattle.std.specs.Prelude.{◌≡◌, cond, ℕ, eqb}
+use Rattle.std.specs.Prelude.{◌≡◌, ℕ, Result, Ok, Err}
 use Rattle.rules.specs.Step as rules
 use Rattle.rules.specs.CertificateLines.{State}
-use Rattle.rules.specs.declared.Verdict.TheVariants.{Accepted, Refused}
+use Rattle.rules.specs.Rule.{number, of_file, refused_with}
+use Rattle.rules.specs.declared.Rule.{Rule}
+use Rattle.rules.specs.declared.Refusal.{Refusal}
+use Rattle.rules.specs.declared.Verdict.{Verdict}
+use Rattle.rules.specs.declared.Verdict.TheVariants.{Accepted}
 use Rattle.rules.specs.declared.Report.{Report}
 use Rattle.tables.specs.Tables.{Tables, KeptAll}
 use Rattle.reading.specs.declared.Counts.{Counts}
 use Rattle.reading.specs.declared.Ended.{Ended}
-use Rattle.reading.specs.declared.Ended.TheVariants as end_of_lem
 
--- at the end of the file, by the number of the rule that is broken there; 0 if none is
-abbrev pub ended_by : ℕ → Counts → Ended
-ended_by k c = cond (eqb k 0) (end_of_lem.Closed c) (end_of_lem.Refused k 0 c)
+-- at the end of the file, by the rule that is broken there
+abbrev pub ended_by : Result (Unit {0}) Rule → Counts → Ended
+ended_by (Ok x) c = record { outcome = Ok x; counts = c }
+ended_by (Err rule) c = record { outcome = Err (of_file rule); counts = c }
 
 -- the report of a certificate that is read, and of a refusal before any of its lines
-abbrev pub report_of : Ended → Report
-report_of (end_of_lem.Closed c) = record { verdict = Accepted; expansions = c.expansions; additions = c.additions; deletions = c.deletions }
-report_of (end_of_lem.Refused k line c) =
-    record { verdict = Refused k 2 line; expansions = c.expansions; additions = c.additions; deletions = c.deletions }
+abbrev pub verdict_of : Result (Unit {0}) Refusal → Verdict
+verdict_of (Ok x) = Accepted
+verdict_of (Err refusal) = refused_with refusal 2
 
-abbrev pub refused_early : ℕ → ℕ → ℕ → Report
-refused_early number file line = record { verdict = Refused number file line; expansions = 0; additions = 0; deletions = 0 }
+abbrev pub report_of : Ended → Report
+report_of e = record {
+  verdict = verdict_of e.outcome;
+  expansions = e.counts.expansions;
+  additions = e.counts.additions;
+  deletions = e.counts.deletions;
+}
+
+abbrev pub refused_early : Refusal → ℕ → Report
+refused_early refusal file = record { verdict = refused_with refusal file; expansions = 0; additions = 0; deletions = 0 }
 
 -- the lines accepted, as the rules count them
 pub record Counted (c : Counts) (s : State) : Type 0 where
@@ -30,8 +41,12 @@ pub record Counted (c : Counts) (s : State) : Type 0 where
 
 -- HOW THE READING ENDS, for the rules and for the code; the tables before and after. A certificate's kind has a state S of its own between two
 -- lines, of which `part` is the one that all kinds have.
+abbrev pub EndedWith : {S : Type 0} → (S → State) → Tables → rules.Read S → Result (Unit {0}) Refusal → Counts → Tables → Type 0
+EndedWith part t (rules.ended s) (Ok x) c u = Counted c (part s) × KeptAll (part s).needs t u
+EndedWith part t (rules.ended s) (Err refusal) c u = ⊥
+EndedWith part t (rules.refused_at n m s) (Ok x) c u = ⊥
+EndedWith part t (rules.refused_at n m s) (Err refusal) c u =
+    (number refusal.rule ≡ n) × (refusal.line ≡ m) × Counted c (part s) × KeptAll (part s).needs t u
+
 abbrev pub EndedAs : {S : Type 0} → (S → State) → Tables → rules.Read S → Ended → Tables → Type 0
-EndedAs part t (rules.ended s) (end_of_lem.Closed c) u = Counted c (part s) × KeptAll (part s).needs t u
-EndedAs part t (rules.ended s) (end_of_lem.Refused k line c) u = ⊥
-EndedAs part t (rules.refused_at n m s) (end_of_lem.Closed c) u = ⊥
-EndedAs part t (rules.refused_at n m s) (end_of_lem.Refused k line c) u = (k ≡ n) × (line ≡ m) × Counted c (part s) × KeptAll (part s).needs t u
+EndedAs part t r e u = EndedWith part t r e.outcome e.counts u

@@ -1,13 +1,14 @@
 -- The lines of a certificate one after the other, whatever its kind. Assumes nothing.
-use Rattle.std.specs.Prelude.{◌≡◌, List, ◌⊎◌, ℕ, ◌+◌, ◌*◌, ◌≤◌, length, drop}
-use Rattle.std.proofs.Common.{inl, inr}
+use Rattle.std.specs.Prelude.{◌≡◌, List, ℕ, ◌+◌, ◌*◌, ◌≤◌, length, Result, Ok, Err}
 use Rattle.std.proofs.Math.Option.{Option}
-use Rattle.lines.specs.Lines.{lines_of}
+use Rattle.lines.specs.Each.{bytes_in}
 use Rattle.rules.specs.Formula.{Formula}
 use Rattle.rules.specs.Limits.{Limits, limits}
 use Rattle.rules.specs.Step as rules
 use Rattle.rules.specs.Step.{judge_lines, judge_file}
 use Rattle.rules.specs.CertificateLines.{State}
+use Rattle.rules.specs.Rule.{number}
+use Rattle.rules.specs.declared.Rule.{Rule}
 use Rattle.tables.specs.Tables.{Tables, lengths_of, KeptAll}
 use Rattle.formula.specs.declared.Reading.{Reading}
 use Rattle.formula.specs.Holds.{Holds}
@@ -39,27 +40,27 @@ module _ {S P W : Type 0} (R : Rules S) (C : Code S P W) where
   abbrev pub Light : P → ℕ → Type 0
   Light p n = C.weight p + 3 * n ≤ 4194304
 
-  -- WHAT A LINE OF n BYTES LEADS TO: the rules' step and the code's, the next progress or a refusal's number; the tables before, the tables and
+  -- WHAT A LINE OF n BYTES LEADS TO: the rules' step and the code's, the next progress or the rule that is broken; the tables before, the tables and
   -- the working memory after
-  abbrev pub Leads : Formula → P → ℕ → Tables → rules.Step S → P ⊎ ℕ → Tables → W → Type 0
-  Leads f p n t (rules.next s) (inl q) u w = C.Shown q u w f s × KeptAll (R.part s).needs t u × (C.weight q ≤ C.weight p + 3 * n)
-  Leads f p n t (rules.next s) (inr k) u w = ⊥
-  Leads f p n t (rules.refuse m s) (inl q) u w = ⊥
-  Leads f p n t (rules.refuse m s) (inr k) u w = (k ≡ m) × KeptAll (R.part s).needs t u
+  abbrev pub Leads : Formula → P → ℕ → Tables → rules.Step S → Result P Rule → Tables → W → Type 0
+  Leads f p n t (rules.next s) (Ok q) u w = C.Shown q u w f s × KeptAll (R.part s).needs t u × (C.weight q ≤ C.weight p + 3 * n)
+  Leads f p n t (rules.next s) (Err rule) u w = ⊥
+  Leads f p n t (rules.refuse m s) (Ok q) u w = ⊥
+  Leads f p n t (rules.refuse m s) (Err rule) u w = (number rule ≡ m) × KeptAll (R.part s).needs t u
 
   -- ANY LINE: the tables t and the working memory w become u and v, and the step is the rules' step
-  pub record AnyLine (bs : List ℕ) (p : P) (t : Tables) (w : W) (r : P ⊎ ℕ) (u : Tables) (v : W) : Type 0 where
+  pub record AnyLine (bs : List ℕ) (p : P) (t : Tables) (w : W) (r : Result P Rule) (u : Tables) (v : W) : Type 0 where
     pub steps : (f : Formula) (s : S) → C.Shown p t w f s → Light p (length bs)
         → Leads f p (length bs) t (R.judge (limits (lengths_of t)) f s bs) r u v
 
-  -- the lines before place `at` are read, and the line there has number n
-  pub record Going (bs : List ℕ) (f : Formula) (t : Tables) (at n : ℕ) (p : P) (u : Tables) (w : W) : Type 0 where
+  -- n lines are read, and these are left
+  pub record Going (bs : List ℕ) (f : Formula) (t : Tables) (n : ℕ) (ls : List (List ℕ)) (p : P) (u : Tables) (w : W) : Type 0 where
     pub state : S
     pub shown : C.Shown p u w f state
     pub rest
-        : judge_lines (R.judge (limits (lengths_of t)) f) R.at_end n (lines_of (drop at bs)) state ≡ read_by R (limits (lengths_of t)) f bs
+        : judge_lines (R.judge (limits (lengths_of t)) f) R.at_end (n + 1) ls state ≡ read_by R (limits (lengths_of t)) f bs
     pub kept : KeptAll (R.part state).needs t u
-    pub light : C.weight p ≤ 3 * at
+    pub light : C.weight p + 3 * bytes_in ls ≤ 3 * (length bs + 1)
 
   -- THE WHOLE CERTIFICATE, for every formula that is shown with nothing read yet
   abbrev pub CertificateRead : List ℕ → P → Tables → W → Ended → Tables → Type 0

@@ -4,65 +4,59 @@
 ghost use Rattle.std.specs.Prelude.{◌≡◌};
 ghost use Rattle.reading.specs.Ends.{ended_by, report_of, refused_early};
 
-use rules::{Report, Verdict};
+use rules::{Refusal, Report, Rule, Verdict};
 
 // The lines accepted: expansions, additions or resolutions, deletions.
-#[derive(Clone, Copy)]
+#[derive(Clone, Copy, PartialEq, Eq, Default)]
 pub struct Counts {
     pub expansions: u32,
     pub additions: u32,
     pub deletions: u32,
 }
 
-// Closed, or refused with a number and a line; and the lines accepted.
-#[derive(Clone, Copy)]
-pub enum Ended {
-    Closed(Counts),
-    Refused(u32, u32, Counts),
+// The reading ends, with a refusal or without; and the lines accepted until then.
+#[derive(Clone, Copy, PartialEq, Eq)]
+pub struct Ended {
+    pub outcome: Result<(), Refusal>,
+    pub counts: Counts,
 }
 
-// The end of the file: the number of the rule that is broken there, 0 if none is.
-pub fn at_end(k: u32, c: Counts) -> Ended
-    ensures { result ≡ ended_by k c }
+// The end of the file, by the rule that is broken there.
+pub fn at_end(outcome: Result<(), Rule>, counts: Counts) -> Ended
+    ensures { result ≡ ended_by outcome counts }
 {
-    if k == 0 {
-        return Ended::Closed(c);
+    Ended {
+        outcome: outcome.map_err(Refusal::from),
+        counts,
     }
-    Ended::Refused(k, 0, c)
+}
+
+// A report of this verdict and these counts.
+fn reported(verdict: Verdict, counts: Counts) -> Report
+    ensures { result ≡ record { verdict = verdict; expansions = counts.expansions; additions = counts.additions; deletions = counts.deletions } }
+{
+    Report {
+        verdict,
+        expansions: counts.expansions,
+        additions: counts.additions,
+        deletions: counts.deletions,
+    }
 }
 
 // The report of a certificate that is read.
-pub fn report_of(e: Ended) -> Report
-    ensures { result ≡ report_of e }
+pub fn report_of(ended: Ended) -> Report
+    ensures { result ≡ report_of ended }
 {
-    match e {
-        Ended::Closed(c) => Report {
-            verdict: Verdict::Accepted,
-            expansions: c.expansions,
-            additions: c.additions,
-            deletions: c.deletions,
-        },
-        Ended::Refused(number, line, c) => Report {
-            verdict: Verdict::Refused {
-                number,
-                file: 2,
-                line,
-            },
-            expansions: c.expansions,
-            additions: c.additions,
-            deletions: c.deletions,
-        },
-    }
+    let verdict = match ended.outcome {
+        Ok(()) => Verdict::Accepted,
+        Err(refusal) => refusal.verdict(2),
+    };
+    reported(verdict, ended.counts)
 }
 
-// A refusal before any line of the certificate.
-pub fn refused_early(number: u32, file: u32, line: u32) -> Report
-    ensures { result ≡ refused_early number file line }
+// A refusal before any line of the certificate; file 1 is the formula, file 2 the certificate.
+pub fn refused_early(refusal: Refusal, file: u32) -> Report
+    ensures { result ≡ refused_early refusal file }
 {
-    Report {
-        verdict: Verdict::Refused { number, file, line },
-        expansions: 0,
-        additions: 0,
-        deletions: 0,
-    }
+    reported(refusal.verdict(file), Counts::default())
 }

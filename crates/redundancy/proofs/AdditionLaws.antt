@@ -14,16 +14,16 @@ use Rattle.rules.specs.Codes.{lit_of, flip}
 use Rattle.rules.specs.Propagation.{rup, less, rat}
 use Rattle.rules.proofs.Kit.{clear, by_yes, all_in, in_all_lem, keep_in, in_keep}
 use Rattle.rules.proofs.CodesLaw.{lit_flip}
-use Rattle.redundancy.specs.declared.Addition.TheVariants.{Accepted, Refused}
-use Rattle.propagation.specs.declared.Visit.{Visit}
-use Rattle.propagation.specs.declared.Visit.TheVariants as visit
-use Rattle.propagation.specs.declared.Propagated.{Propagated}
-use Rattle.propagation.specs.declared.Propagated.TheVariants as propagated
+use Rattle.std.specs.Prelude.{Some, None}
+use Rattle.std.proofs.lemmas.Option.{none-some, same_Some}
+use Rattle.rules.specs.declared.Outcome.{Outcome}
+use Rattle.rules.specs.declared.Outcome.TheVariants as outcome
+use Rattle.trail.specs.declared.Trail.{Trail}
 use Rattle.clauses.specs.Standing.{stands, clause_at, standing, literals}
 use Rattle.trail.specs.Trail.{truth, Ready, Undone}
-use Rattle.propagation.specs.Answers.{Good, Denies, Holds, Moved, Clash, Visited, Held}
-use Rattle.redundancy.specs.Additions.{rup_of, rat_on, rat_of, accepts, less_code, Both, Refuted, Follows, Tried, Decided}
-use Rattle.trail.proofs.TrailLaws.{ready_undone}
+use Rattle.propagation.specs.Answers.{Good, Denies, Holds, Moved, Clash, Visited, Held, HeldIn}
+use Rattle.redundancy.specs.Additions.{rup_of, rat_on, rat_of, first_of, accepts, less_code, Both, Refuted, Follows, Tried, Decided, DecidedIn}
+use Rattle.trail.proofs.TrailLaws.{ready_back}
 use Rattle.clauses.proofs.StandingLaws.{standing_in_lem, standing_out}
 use Rattle.propagation.proofs.AnswerLaws.{visited_clash, visited_moved}
 use Rattle.propagation.proofs.HeldLaws.{held_moved, held_kept}
@@ -37,27 +37,30 @@ module _ (S : List (List ℕ)) (c : List ℕ) where
   unfolding Follows
   follows_moved h m = λ Q g d. m.sound Q (g, d) (h.based Q g)
 
-  pub follows_kept : (t t' : List ℕ) (n : ℕ) → ((k : ℕ) → k < n → get_or t' k 0 ≡ get_or t k 0) → Follows S c t n → Follows S c t' n
+  pub follows_kept : {t : List ℕ} {n : ℕ} {f' t' : List ℕ} {n' : ℕ} → Tried t n f' t' n' → Follows S c t n → Follows S c t' n'
   unfolding Follows Holds
-  follows_kept t t' n e h = λ Q g d k lt. ap (λ (x : ℕ). Q (flip x)) (e k lt) ∙ h Q g d k lt
+  follows_kept {t} {n} {f'} {t'} {n'} w h = λ Q g d k lt.
+      let less : k < n = omega (arith, w.same) in ap (λ (x : ℕ). Q (flip x)) (w.kept k less) ∙ h Q g d k less
 
-  module _ (d : List ℕ) {f t : List ℕ} {n : ℕ} {f' t' : List ℕ} {k : ℕ} {f'' : List ℕ} (u : Undone f' t' n f'') where
-    tried : Moved (Both S (c ++ d)) f t n f' t' k → Tried t n f'' t'
-    tried m = record { ready = ready_undone f' t' k n f'' m.ready u; kept = m.kept }
+  module _ (d : List ℕ) {f t : List ℕ} {n : ℕ} {f' t' : List ℕ} {k : ℕ} {b : Trail} (u : Undone f' t' n b.falses × (b.literals ≡ t') × (b.length ≡ n)) where
+    tried : Moved (Both S (c ++ d)) f t n f' t' k → Tried t n b.falses b.literals b.length
+    tried m = record { ready = ready_back m.ready u; same = u.2; kept = λ j h. ap (λ (x : List ℕ). get_or x j 0) u.1 ∙ m.kept j h }
 
-    pub tried_clash : Follows S c t n → Moved (Both S (c ++ d)) f t n f' t' k × Clash (Both S (c ++ d)) t n → Tried t n f'' t' × (true ≡ rup_of S (c ++ d))
+    pub tried_clash : Follows S c t n → Moved (Both S (c ++ d)) f t n f' t' k × Clash (Both S (c ++ d)) t n
+        → Tried t n b.falses b.literals b.length × (true ≡ rup_of S (c ++ d))
     unfolding Follows
     tried_clash h v =
         (tried v.0, sym (rup_true S (c ++ d) (λ Q g e. v.1 Q (g, e) (h Q g (denies_part Q c d e)))))
 
-    pub tried_good : Moved (Both S (c ++ d)) f t n f' t' k × Good S (truth f') × Denies (truth f') (c ++ d) → Tried t n f'' t' × (false ≡ rup_of S (c ++ d))
+    pub tried_good : Moved (Both S (c ++ d)) f t n f' t' k × Good S (truth f') × Denies (truth f') (c ++ d)
+        → Tried t n b.falses b.literals b.length × (false ≡ rup_of S (c ++ d))
     tried_good v = (tried v.0, sym (rup_false S (c ++ d) (truth f') v.1 v.2))
 
-tried_trans : (t₀ : List ℕ) (n : ℕ) (f t f' t' : List ℕ) → Tried t₀ n f t → Tried t n f' t' → Tried t₀ n f' t'
-tried_trans t₀ n f t f' t' a b = record { ready = b.ready; kept = λ k h. b.kept k h ∙ a.kept k h }
+tried_trans : {t₀ : List ℕ} {n₀ : ℕ} {f t : List ℕ} {n : ℕ} {f' t' : List ℕ} {n' : ℕ} → Tried t₀ n₀ f t n → Tried t n f' t' n' → Tried t₀ n₀ f' t' n'
+tried_trans a b = record { ready = b.ready; same = b.same ∙ a.same; kept = λ k h. b.kept k (omega (arith, a.same)) ∙ a.kept k h }
 
-pub tried_self : (f t : List ℕ) (n : ℕ) → Ready f t n → Tried t n f t
-tried_self f t n r = record { ready = r; kept = λ k h. refl }
+pub tried_self : (f t : List ℕ) (n : ℕ) → Ready f t n → Tried t n f t n
+tried_self f t n r = record { ready = r; same = refl; kept = λ k h. refl }
 
 -- THE RULE over codes: clause j is no candidate, or passes
 module _ (t ms : List ℤ) (count l : ℕ) (c : List ℕ) where
@@ -101,59 +104,68 @@ module _ (t ms : List ℤ) (count l : ℕ) (c : List ℕ) where
       (passing_lits (clause_at t ms j) ∙ fails)))
 
 -- THE WALK over the candidates, up to clause k
-pub record Walking (t ms : List ℤ) (count from l : ℕ) (c t₀ f tr : List ℕ) (k : ℕ) : Type 0 where
-  pub tried : Tried t₀ from f tr
+pub record Walking (t ms : List ℤ) (count l : ℕ) (c t₀ : List ℕ) (n₀ : ℕ) (f tr : List ℕ) (n k : ℕ) : Type 0 where
+  pub tried : Tried t₀ n₀ f tr n
   pub passed : (j : ℕ) → j < k → Passes t ms count l c j
 
-pub walking_start : (t ms : List ℤ) (count from l : ℕ) (c f tr : List ℕ) → Ready f tr from → Walking t ms count from l c tr f tr 0
-walking_start t ms count from l c f tr r = record { tried = tried_self f tr from r; passed = λ j h. absurd (omega arith) }
+pub walking_start : (t ms : List ℤ) (count l : ℕ) (c f tr : List ℕ) (n : ℕ) → Ready f tr n → Walking t ms count l c tr n f tr n 0
+walking_start t ms count l c f tr n r = record { tried = tried_self f tr n r; passed = λ j h. absurd (omega arith) }
 
-module _ (t ms : List ℤ) (count from l : ℕ) (c t₀ f tr : List ℕ) (k : ℕ) (w : Walking t ms count from l c t₀ f tr k) where
-  pub walking_end : count ≤ k → Tried t₀ from f tr × (true ≡ rat_on (standing t ms count) c l)
+module _ (t ms : List ℤ) (count l : ℕ) (c t₀ : List ℕ) (n₀ : ℕ) (f tr : List ℕ) (n k : ℕ) (w : Walking t ms count l c t₀ n₀ f tr n k) where
+  pub walking_end : count ≤ k → Tried t₀ n₀ f tr n × (true ≡ rat_on (standing t ms count) c l)
   walking_end h = (w.tried, rat_true t ms count l c (λ j lt. w.passed j (omega arith)))
 
   module _ (lt : k < count) where
-    pub walking_off : stands t ms k ≡ false → Walking t ms count from l c t₀ f tr (k + 1)
+    pub walking_off : stands t ms k ≡ false → Walking t ms count l c t₀ n₀ f tr n (k + 1)
     walking_off z = record { tried = w.tried; passed = below_more (Passes t ms count l c) k w.passed (λ on. absurd (clear on z)) }
 
     module _ (on : stands t ms k ≡ true) (d : List ℕ) (skip : ℕ) (ed : d ≡ clause_at t ms k) (es : skip ≡ flip l) (h : Bool) (eh : h ≡ is_in d skip) where
       held : is_in (clause_at t ms k) (flip l) ≡ h
       held = sym (eh ∙ ap₂ (λ (a : List ℕ) (x : ℕ). is_in a x) ed es)
 
-      pub walking_out : h ≡ false → Walking t ms count from l c t₀ f tr (k + 1)
+      pub walking_out : h ≡ false → Walking t ms count l c t₀ n₀ f tr n (k + 1)
       walking_out z = record {
         tried = w.tried;
         passed = below_more (Passes t ms count l c) k w.passed (λ o y. absurd (clear y (held ∙ z)));
       }
 
-      module _ (yes : h ≡ true) (f' t' : List ℕ) (r : Bool)
-          (v : Tried tr from f' t' × (r ≡ rup_of (standing t ms count) (c ++ less_code skip d))) where
+      module _ (yes : h ≡ true) (f' t' : List ℕ) (n' : ℕ) (r : Bool)
+          (v : Tried tr n f' t' n' × (r ≡ rup_of (standing t ms count) (c ++ less_code skip d))) where
         says : rup_of (standing t ms count) (c ++ less_code (flip l) (clause_at t ms k)) ≡ r
         says = sym (v.1 ∙ ap₂ (λ (x : ℕ) (a : List ℕ). rup_of (standing t ms count) (c ++ less_code x a)) es ed)
 
-        after : Tried t₀ from f' t'
-        after = tried_trans t₀ from f tr f' t' w.tried v.0
+        after : Tried t₀ n₀ f' t' n'
+        after = tried_trans w.tried v.0
 
-        pub walking_yes : r ≡ true → Walking t ms count from l c t₀ f' t' (k + 1)
+        pub walking_yes : r ≡ true → Walking t ms count l c t₀ n₀ f' t' n' (k + 1)
         walking_yes z = record { tried = after; passed = below_more (Passes t ms count l c) k w.passed (λ o y. says ∙ z) }
 
-        pub walking_no : r ≡ false → Tried t₀ from f' t' × (false ≡ rat_on (standing t ms count) c l)
+        pub walking_no : r ≡ false → Tried t₀ n₀ f' t' n' × (false ≡ rat_on (standing t ms count) c l)
         walking_no z = (after, rat_false t ms count l c k lt on (held ∙ yes) (says ∙ z))
 
 -- the first written literal
-pub rat_none : (S : List (List ℕ)) (c : List ℕ) → c ≡ [] → false ≡ rat_of S c
+pub rat_none : (S : List (List ℕ)) (c : List ℕ) → None ≡ first_of c → false ≡ rat_of S c
 unfolding rat_of rat
-rat_none S c e = sym (ap (λ (x : List ℕ). rat (literals S) (map lit_of x)) e)
+rat_none S [] e = refl
+rat_none S (l ∷ c) e = absurd (none-some l e)
 
-pub rat_first : (S : List (List ℕ)) (c : List ℕ) (l : ℕ) (c' : List ℕ) → c ≡ l ∷ c' → rat_on S c l ≡ rat_of S c
-rat_first S c l c' e = subst (λ (x : List ℕ). rat_on S x l ≡ rat_of S x) (sym e) (unfold rat_on rat_of rat in refl)
+pub rat_first : (S : List (List ℕ)) (c : List ℕ) (l : ℕ) → Some l ≡ first_of c → rat_on S c l ≡ rat_of S c
+rat_first S [] l e = absurd (none-some l (sym e))
+rat_first S (m ∷ c) l e = subst (λ x. rat_on S (m ∷ c) x ≡ rat_of S (m ∷ c)) (sym (same_Some l m e)) (unfold rat_on rat_of rat in refl)
 
 -- THE WHOLE LINE: the clause alone is the clause joined with nothing
 alone : (c d : List ℕ) → d ≡ [] → c ++ less_code 0 d ≡ c
 alone c d e = ap (λ (x : List ℕ). c ++ x) (ap (less_code 0) e ∙ less_nil 0) ∙ append-nil c
 
-refuted_as : (S : List (List ℕ)) (c c' f₀ t₀ : List ℕ) (n₀ : ℕ) (f t : List ℕ) (r : Propagated) → c ≡ c' → Refuted S c f₀ t₀ n₀ f t r → Refuted S c' f₀ t₀ n₀ f t r
-refuted_as S c c' f₀ t₀ n₀ f t r e v = subst (λ (x : List ℕ). Refuted S x f₀ t₀ n₀ f t r) e v
+refuted_as : (S : List (List ℕ)) (c c' f₀ t₀ : List ℕ) (n₀ : ℕ) (f t : List ℕ) (n : ℕ) (r : Outcome) → c ≡ c' → Refuted S c f₀ t₀ n₀ f t n r
+    → Refuted S c' f₀ t₀ n₀ f t n r
+refuted_as S c c' f₀ t₀ n₀ f t n r e v = subst (λ (x : List ℕ). Refuted S x f₀ t₀ n₀ f t n r) e v
+
+-- cut back, what is held stays
+held_back : {S : List (List ℕ)} {f₀ t₀ : List ℕ} {n₀ : ℕ} {f t : List ℕ} {k : ℕ} {b : Trail} → Held S f₀ t₀ n₀ → Ready f t k
+    → ((j : ℕ) → j < n₀ → get_or t j 0 ≡ get_or t₀ j 0) → Undone f t n₀ b.falses × (b.literals ≡ t) × (b.length ≡ n₀) → HeldIn S b
+held_back {S} {f₀} {t₀} {n₀} {f} {t} {k} {b} h r e u = subst (λ (x : ℕ). Held S b.falses b.literals x) (sym u.2)
+    (held_kept h (subst (λ (x : ℕ). Ready b.falses b.literals x) u.2 (ready_back r u)) (λ j lt. ap (λ (x : List ℕ). get_or x j 0) u.1 ∙ e j lt))
 
 module _ (S : List (List ℕ)) (c : List ℕ) where
   accepts_rup : rup_of S c ≡ true → accepts S c ≡ true
@@ -166,53 +178,57 @@ module _ (S : List (List ℕ)) (c : List ℕ) where
 
   module _ {f₀ t₀ : List ℕ} {n₀ : ℕ} (h : Held S f₀ t₀ n₀) {f t : List ℕ} where
     -- a conflict of the standing clauses alone
-    decided_closed : {b : ℕ} (q : ℕ) → Moved (Good S) f₀ t₀ n₀ f t b × Clash (Good S) t₀ n₀ → Decided S c f t (Accepted (record { n = b; q = q }))
+    decided_closed : {b : ℕ} (q : ℕ) → Moved (Good S) f₀ t₀ n₀ f t b × Clash (Good S) t₀ n₀ → Decided S c f t b (Some q)
     unfolding Decided
     decided_closed q v = (held_moved h v.0, accepts_rup (rup_true S c (λ Q g d. v.1 Q g (h.based Q g))))
 
-    decided_rup : {k : ℕ} (q : ℕ) (f' : List ℕ) → Undone f t n₀ f' → Moved (Both S c) f₀ t₀ n₀ f t k × Clash (Both S c) t₀ n₀
-        → Decided S c f' t (Accepted (record { n = n₀; q = q }))
+    decided_rup : {k : ℕ} (q : ℕ) {b : Trail} → Undone f t n₀ b.falses × (b.literals ≡ t) × (b.length ≡ n₀)
+        → Moved (Both S c) f₀ t₀ n₀ f t k × Clash (Both S c) t₀ n₀ → DecidedIn S c b (Some q)
     unfolding Decided
-    decided_rup {k} q f' u v =
-        (held_kept h (ready_undone f t k n₀ f' v.0.ready u) v.0.kept, accepts_rup (rup_true S c (λ Q g d. v.1 Q (g, d) (h.based Q g))))
+    decided_rup q u v =
+        (held_back h v.0.ready v.0.kept u, accepts_rup (rup_true S c (λ Q g d. v.1 Q (g, d) (h.based Q g))))
 
-    module _ {k : ℕ} (v : Moved (Both S c) f₀ t₀ n₀ f t k × Good S (truth f) × Denies (truth f) c) (f' t' : List ℕ) (ok : Bool)
-        (w : Tried t k f' t' × (ok ≡ rat_of S c)) where
+    module _ {k : ℕ} (v : Moved (Both S c) f₀ t₀ n₀ f t k × Good S (truth f) × Denies (truth f) c) (f' t' : List ℕ) (n' : ℕ) (ok : Bool)
+        (w : Tried t k f' t' n' × (ok ≡ rat_of S c)) where
       answer : accepts S c ≡ ok
       answer = accepts_rat (rup_false S c (truth f) v.1 v.2) ∙ sym w.1
 
-      decided_rat : (q : ℕ) (f'' : List ℕ) → Undone f' t' n₀ f'' → ok ≡ true → Decided S c f'' t' (Accepted (record { n = n₀; q = q }))
+      decided_rat : (q : ℕ) {b : Trail} → Undone f' t' n₀ b.falses × (b.literals ≡ t') × (b.length ≡ n₀) → ok ≡ true → DecidedIn S c b (Some q)
       unfolding Decided
-      decided_rat q f'' u e =
-          (held_kept h (ready_undone f' t' k n₀ f'' w.0.ready u) (λ j lt. w.0.kept j (omega (arith, v.0.up)) ∙ v.0.kept j lt), answer ∙ e)
+      decided_rat q u e =
+          (held_back h w.0.ready (λ j lt. w.0.kept j (omega (arith, v.0.up)) ∙ v.0.kept j lt) u, answer ∙ e)
 
-      decided_no : ok ≡ false → Decided S c f' t' Refused
+      decided_no : ok ≡ false → Decided S c f' t' n' None
       unfolding Decided
       decided_no e = answer ∙ e
 
 -- THE ANSWERS, in the code's order: what stood is followed (v), the clause is denied (p), its candidates are tried (ok)
-module _ (S : List (List ℕ)) (c : List ℕ) {f₀ t₀ : List ℕ} {n₀ : ℕ} (h : Held S f₀ t₀ n₀) (f₁ t₁ : List ℕ) {v : Visit} {b : ℕ} where
-  pub added_closed : (q : ℕ) → v ≡ visit.Conflict b → Visited S f₀ t₀ n₀ f₁ t₁ v → Decided S c f₁ t₁ (Accepted (record { n = b; q = q }))
+module _ (S : List (List ℕ)) (c : List ℕ) {f₀ t₀ : List ℕ} {n₀ : ℕ} (h : Held S f₀ t₀ n₀) (f₁ t₁ : List ℕ) (b : ℕ) {v : Outcome} where
+  pub added_closed : (q : ℕ) → v ≡ outcome.Conflict → Visited S f₀ t₀ n₀ f₁ t₁ b v → Decided S c f₁ t₁ b (Some q)
   added_closed q e m = decided_closed S c h q (visited_clash e m)
 
-  module _ (e : v ≡ visit.Go b) (m : Visited S f₀ t₀ n₀ f₁ t₁ v) (d : List ℕ) (ed : d ≡ []) (f₂ t₂ : List ℕ) (p : Propagated)
-      (r : Refuted S (c ++ less_code 0 d) f₁ t₁ b f₂ t₂ p) where
+  module _ (e : v ≡ outcome.Stable) (m : Visited S f₀ t₀ n₀ f₁ t₁ b v) (d : List ℕ) (ed : d ≡ []) (f₂ t₂ : List ℕ) (k : ℕ) (p : Outcome)
+      (r : Refuted S (c ++ less_code 0 d) f₁ t₁ b f₂ t₂ k p) where
     followed : Held S f₁ t₁ b
     followed = held_moved h (visited_moved e m)
 
-    denied : Refuted S c f₁ t₁ b f₂ t₂ p
-    denied = refuted_as S (c ++ less_code 0 d) c f₁ t₁ b f₂ t₂ p (alone c d ed) r
+    denied : Refuted S c f₁ t₁ b f₂ t₂ k p
+    denied = refuted_as S (c ++ less_code 0 d) c f₁ t₁ b f₂ t₂ k p (alone c d ed) r
 
-    pub added_rup : {k : ℕ} (q : ℕ) {f₃ : List ℕ} → p ≡ propagated.Conflict k → Undone f₂ t₂ b f₃ → Decided S c f₃ t₂ (Accepted (record { n = b; q = q }))
-    added_rup q {f₃} z u = decided_rup S c followed q f₃ u (refuted_clash c z denied)
+    pub added_rup : (q : ℕ) {a : Trail} → p ≡ outcome.Conflict → Undone f₂ t₂ b a.falses × (a.literals ≡ t₂) × (a.length ≡ b) → DecidedIn S c a (Some q)
+    added_rup q z u = decided_rup S c followed q u (refuted_clash c z denied)
 
-    module _ {k : ℕ} (z : p ≡ propagated.Stable k) where
-      pub rat_asked : Ready f₂ t₂ k × Follows S c t₂ k
-      rat_asked = let w = refuted_good c z denied in (w.0.ready, follows_moved S c followed w.0)
+    -- a conflict leaves a trail to cut back
+    pub added_moved : p ≡ outcome.Conflict → Moved (Both S c) f₁ t₁ b f₂ t₂ k
+    added_moved z = (refuted_clash c z denied).0
 
-      module _ {f₃ t₃ : List ℕ} {ok : Bool} (w : Tried t₂ k f₃ t₃ × (ok ≡ rat_of S c)) where
-        pub added_rat : (q : ℕ) {f₄ : List ℕ} → Undone f₃ t₃ b f₄ → ok ≡ true → Decided S c f₄ t₃ (Accepted (record { n = b; q = q }))
-        added_rat q {f₄} u y = decided_rat S c followed (refuted_good c z denied) f₃ t₃ ok w q f₄ u y
+    module _ (z : p ≡ outcome.Stable) where
+      pub rat_asked : Ready f₂ t₂ k × Follows S c t₂ k × (b ≤ k)
+      rat_asked = let w = refuted_good c z denied in (w.0.ready, follows_moved S c followed w.0, w.0.up)
 
-        pub added_no : ok ≡ false → Decided S c f₃ t₃ Refused
-        added_no y = decided_no S c followed (refuted_good c z denied) f₃ t₃ ok w y
+      module _ {f₃ t₃ : List ℕ} {n₃ : ℕ} {ok : Bool} (w : Tried t₂ k f₃ t₃ n₃ × (ok ≡ rat_of S c)) where
+        pub added_rat : (q : ℕ) {a : Trail} → Undone f₃ t₃ b a.falses × (a.literals ≡ t₃) × (a.length ≡ b) → ok ≡ true → DecidedIn S c a (Some q)
+        added_rat q u y = decided_rat S c followed (refuted_good c z denied) f₃ t₃ n₃ ok w q u y
+
+        pub added_no : ok ≡ false → Decided S c f₃ t₃ n₃ None
+        added_no y = decided_no S c followed (refuted_good c z denied) f₃ t₃ n₃ ok w y

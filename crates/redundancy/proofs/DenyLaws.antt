@@ -4,17 +4,14 @@ use mathlib.Core.Bool.{Bool, true, false, not}
 use mathlib.Core.List.Memᴰ
 use mathlib.Core.List.{List, [], ◌∷◌, ◌++◌, append_assoc, append-nil}
 use Prim.Native.Nat.{ℕ, ◌<◌}
-use lib.IntN.{ℤ}
 use borrow.Author.Tests.{eq-eqb, ne_eqb}
-use Rattle.clauses.specs.declared.Cursor.{Cursor}
-use Rattle.clauses.specs.Standing.{literals_from}
-use Rattle.clauses.proofs.CursorLaws.{literal_some}
+use Rattle.cells.specs.declared.Codes.{Codes}
+use Rattle.cells.specs.Codes.{codes_left, codes_table, codes_place}
+use Rattle.clauses.proofs.LiteralLaws.{literal_some}
 use Rattle.rules.specs.Codes.{flip}
 use Rattle.rules.proofs.Kit.{either}
-use Rattle.propagation.specs.declared.Visit.{Visit}
-use Rattle.propagation.specs.declared.Visit.TheVariants.{Conflict, Go}
-use Rattle.propagation.specs.declared.Propagated.{Propagated}
-use Rattle.propagation.specs.declared.Propagated.TheVariants as propagated
+use Rattle.rules.specs.declared.Outcome.{Outcome}
+use Rattle.rules.specs.declared.Outcome.TheVariants.{Conflict, Stable}
 use Rattle.trail.specs.Trail.{off, truth, Assumed, Ready}
 use Rattle.propagation.specs.Answers.{In, Good, Denies, Moved, Clash, Settled}
 use Rattle.redundancy.specs.Additions.{less_code, Denied, Both, Refuted}
@@ -45,8 +42,8 @@ less_none [] h = less_nil 0
 less_none (l ∷ c) h =
     less_kept 0 l c (h l (Memᴰ.head refl)) ∙ ap (λ (z : List ℕ). l ∷ z) (less_none c (λ m x. h m (Memᴰ.tail x)))
 
-pub less_all : (t : List ℤ) (c : Cursor) → less_code 0 (literals_from t c) ≡ literals_from t c
-less_all t c = less_none (literals_from t c) (literal_some t c)
+pub less_all : (c : Codes) → less_code 0 (codes_left c) ≡ codes_left c
+less_all c = less_none (codes_left c) (literal_some (codes_table c) (codes_place c))
 
 -- where a clause is read
 module _ (x : ℕ) (rest : List ℕ) where
@@ -93,8 +90,12 @@ unfolding Denies
 denying_start c f t n r =
     record { done = []; split = refl; moved = moved_refl (λ Q. Denies Q []) f t n r; denies = λ m x. absurd (Memᴰ.not-nil x) }
 
+-- from the whole clause on
+pub denying_at : (c f t : List ℕ) (n : ℕ) {rest : List ℕ} → rest ≡ c → Ready f t n → Denying c rest f t n f t n
+denying_at c f t n e r = subst (λ (x : List ℕ). Denying c x f t n f t n) (sym e) (denying_start c f t n r)
+
 module _ (c rest f₀ t₀ : List ℕ) (n₀ : ℕ) (f t : List ℕ) (n : ℕ) (k : Denying c rest f₀ t₀ n₀ f t n) where
-  pub denying_done : rest ≡ [] → Denied c f₀ t₀ n₀ f t (Go n)
+  pub denying_done : rest ≡ [] → Denied c f₀ t₀ n₀ f t n Stable
   unfolding Denied
   denying_done e =
       let q : k.done ≡ c = sym (k.split ∙ ap (λ (x : List ℕ). k.done ++ x) e ∙ append-nil k.done) in
@@ -113,7 +114,7 @@ module _ (c rest f₀ t₀ : List ℕ) (n₀ : ℕ) (f t : List ℕ) (n : ℕ) (
     before : (Q : ℕ → Bool) → Denies Q c → Denies Q k.done
     before Q d = denies_part Q k.done (l ∷ []) (with_last Q d)
 
-    pub denying_stop : off f (flip l) ≡ true → Denied c f₀ t₀ n₀ f t (Conflict n)
+    pub denying_stop : off f (flip l) ≡ true → Denied c f₀ t₀ n₀ f t n Conflict
     unfolding Denied
     denying_stop o = (
       moved_weaken (λ Q. Denies Q k.done) (λ Q. Denies Q c) before f₀ t₀ n₀ f t n k.moved,
@@ -148,62 +149,67 @@ module _ (c d f₀ t₀ : List ℕ) (n₀ : ℕ) (f t : List ℕ) where
   abbrev Of : List ℕ → (ℕ → Bool) → Type 0
   Of e Q = Denies Q e
 
-  pub joined_stop : {r : Visit} {k : ℕ} → r ≡ Conflict k → Denied c f₀ t₀ n₀ f t r → Denied (c ++ d) f₀ t₀ n₀ f t (Conflict k)
-  joined_stop {r} {k} e v = go (subst (Denied c f₀ t₀ n₀ f t) e v)
+  pub joined_stop : (k : ℕ) {r : Outcome} → r ≡ Conflict → Denied c f₀ t₀ n₀ f t k r → Denied (c ++ d) f₀ t₀ n₀ f t k Conflict
+  joined_stop k {r} e v = go (subst (Denied c f₀ t₀ n₀ f t k) e v)
     where
-      go : Denied c f₀ t₀ n₀ f t (Conflict k) → Denied (c ++ d) f₀ t₀ n₀ f t (Conflict k)
+      go : Denied c f₀ t₀ n₀ f t k Conflict → Denied (c ++ d) f₀ t₀ n₀ f t k Conflict
       go w = unfold Denied in
           (moved_weaken (Of c) (Of (c ++ d)) (λ Q e. denies_part Q c d e) f₀ t₀ n₀ f t k w.0, λ Q co e h. w.1 Q co (denies_part Q c d e) h)
 
-  module _ (n : ℕ) (v : Moved (λ Q. Denies Q c) f₀ t₀ n₀ f t n × Denies (truth f) c) (f' t' : List ℕ) where
-    over : (k : ℕ) → Moved (λ Q. Denies Q d) f t n f' t' k → Moved (λ Q. Denies Q (c ++ d)) f₀ t₀ n₀ f' t' k
-    over k m =
+  module _ (n : ℕ) (v : Moved (λ Q. Denies Q c) f₀ t₀ n₀ f t n × Denies (truth f) c) (f' t' : List ℕ) (k : ℕ) where
+    over : Moved (λ Q. Denies Q d) f t n f' t' k → Moved (λ Q. Denies Q (c ++ d)) f₀ t₀ n₀ f' t' k
+    over m =
         moved_trans (Of (c ++ d)) f₀ t₀ n₀ f t n f' t' k
         (moved_weaken (Of c) (Of (c ++ d)) (λ Q e. denies_part Q c d e) f₀ t₀ n₀ f t n v.0)
         (moved_weaken (Of d) (Of (c ++ d)) (λ Q e. denies_right Q c d e) f t n f' t' k m)
 
-    pub joined : (r : Visit) → Denied d f t n f' t' r → Denied (c ++ d) f₀ t₀ n₀ f' t' r
+    pub joined : (r : Outcome) → Denied d f t n f' t' k r → Denied (c ++ d) f₀ t₀ n₀ f' t' k r
     unfolding Denied
-    joined (Conflict k) w =
-        (over k w.0, λ Q co e h. w.1 Q co (denies_right Q c d e) (v.0.sound Q (denies_part Q c d e) h))
-    joined (Go k) w =
-        (over k w.0, denies_join (truth f') c d (denies_more f f' c w.0.more v.1) w.1)
+    joined Conflict w =
+        (over w.0, λ Q co e h. w.1 Q co (denies_right Q c d e) (v.0.sound Q (denies_part Q c d e) h))
+    joined Stable w =
+        (over w.0, denies_join (truth f') c d (denies_more f f' c w.0.more v.1) w.1)
 
-pub denied_go : (c : List ℕ) {f₀ t₀ : List ℕ} {n₀ : ℕ} {f t : List ℕ} {r : Visit} {k : ℕ} → r ≡ Go k → Denied c f₀ t₀ n₀ f t r
+pub denied_go : (c : List ℕ) {f₀ t₀ : List ℕ} {n₀ : ℕ} {f t : List ℕ} {r : Outcome} {k : ℕ} → r ≡ Stable → Denied c f₀ t₀ n₀ f t k r
     → Moved (λ Q. Denies Q c) f₀ t₀ n₀ f t k × Denies (truth f) c
-denied_go c {f₀} {t₀} {n₀} {f} {t} e v = unfold Denied in subst (Denied c f₀ t₀ n₀ f t) e v
+denied_go c {f₀} {t₀} {n₀} {f} {t} {r} {k} e v = unfold Denied in subst (Denied c f₀ t₀ n₀ f t k) e v
 
 -- the same clause by another name
-pub denied_as : (c c' f₀ t₀ : List ℕ) (n₀ : ℕ) (f t : List ℕ) (r : Visit) → c ≡ c' → Denied c f₀ t₀ n₀ f t r → Denied c' f₀ t₀ n₀ f t r
-denied_as c c' f₀ t₀ n₀ f t r e v = subst (λ (x : List ℕ). Denied x f₀ t₀ n₀ f t r) e v
+pub denied_as : (c c' f₀ t₀ : List ℕ) (n₀ : ℕ) (f t : List ℕ) (n : ℕ) (r : Outcome) → c ≡ c' → Denied c f₀ t₀ n₀ f t n r → Denied c' f₀ t₀ n₀ f t n r
+denied_as c c' f₀ t₀ n₀ f t n r e v = subst (λ (x : List ℕ). Denied x f₀ t₀ n₀ f t n r) e v
 
 -- AND THEN PROPAGATION
 module _ (S : List (List ℕ)) (c f₀ t₀ : List ℕ) (n₀ : ℕ) where
-  pub refuted_deny : (f t : List ℕ) {r : Visit} {k : ℕ} → r ≡ Conflict k → Denied c f₀ t₀ n₀ f t r → Refuted S c f₀ t₀ n₀ f t (propagated.Conflict k)
-  refuted_deny f t {r} {k} e v = go (subst (Denied c f₀ t₀ n₀ f t) e v)
+  pub refuted_deny : (f t : List ℕ) (k : ℕ) {r : Outcome} → r ≡ Conflict → Denied c f₀ t₀ n₀ f t k r → Refuted S c f₀ t₀ n₀ f t k Conflict
+  refuted_deny f t k {r} e v = go (subst (Denied c f₀ t₀ n₀ f t k) e v)
     where
-      go : Denied c f₀ t₀ n₀ f t (Conflict k) → Refuted S c f₀ t₀ n₀ f t (propagated.Conflict k)
+      go : Denied c f₀ t₀ n₀ f t k Conflict → Refuted S c f₀ t₀ n₀ f t k Conflict
       go d = unfold Denied Refuted in
           (moved_weaken (λ Q. Denies Q c) (Both S c) (λ Q h. h.1) f₀ t₀ n₀ f t k d.0, λ Q b h. d.1 Q b.0.consistent b.1 h)
 
-  module _ (f t : List ℕ) (n : ℕ) (d : Moved (λ Q. Denies Q c) f₀ t₀ n₀ f t n × Denies (truth f) c) (f' t' : List ℕ) where
-    both : (k : ℕ) → Moved (Good S) f t n f' t' k → Moved (Both S c) f₀ t₀ n₀ f' t' k
-    both k m =
+  module _ (f t : List ℕ) (n : ℕ) (d : Moved (λ Q. Denies Q c) f₀ t₀ n₀ f t n × Denies (truth f) c) (f' t' : List ℕ) (k : ℕ) where
+    both : Moved (Good S) f t n f' t' k → Moved (Both S c) f₀ t₀ n₀ f' t' k
+    both m =
         moved_trans (Both S c) f₀ t₀ n₀ f t n f' t' k (moved_weaken (λ Q. Denies Q c) (Both S c) (λ Q h. h.1) f₀ t₀ n₀ f t n d.0)
         (moved_weaken (Good S) (Both S c) (λ Q h. h.0) f t n f' t' k m)
 
-    pub refuted_settle : (r : Propagated) → Settled S f t n f' t' r → Refuted S c f₀ t₀ n₀ f' t' r
+    pub refuted_settle : (r : Outcome) → Settled S f t n f' t' k r → Refuted S c f₀ t₀ n₀ f' t' k r
     unfolding Refuted
-    refuted_settle (propagated.Conflict k) v =
-        let s = settled_clash refl v in (both k s.0, λ Q b h. s.1 Q b.0 (d.0.sound Q b.1 h))
-    refuted_settle (propagated.Stable k) v =
-        let s = settled_good refl v in (both k s.0, s.1, denies_more f f' c s.0.more d.1)
+    refuted_settle Conflict v =
+        let s = settled_clash refl v in (both s.0, λ Q b h. s.1 Q b.0 (d.0.sound Q b.1 h))
+    refuted_settle Stable v =
+        let s = settled_good refl v in (both s.0, s.1, denies_more f f' c s.0.more d.1)
 
-module _ {S : List (List ℕ)} (c : List ℕ) {f₀ t₀ : List ℕ} {n₀ : ℕ} {f t : List ℕ} where
-  pub refuted_clash : {r : Propagated} {k : ℕ} → r ≡ propagated.Conflict k → Refuted S c f₀ t₀ n₀ f t r
+module _ {S : List (List ℕ)} (c : List ℕ) {f₀ t₀ : List ℕ} {n₀ : ℕ} {f t : List ℕ} {k : ℕ} where
+  pub refuted_clash : {r : Outcome} → r ≡ Conflict → Refuted S c f₀ t₀ n₀ f t k r
       → Moved (Both S c) f₀ t₀ n₀ f t k × Clash (Both S c) t₀ n₀
-  refuted_clash e v = unfold Refuted in subst (Refuted S c f₀ t₀ n₀ f t) e v
+  refuted_clash e v = unfold Refuted in subst (Refuted S c f₀ t₀ n₀ f t k) e v
 
-  pub refuted_good : {r : Propagated} {k : ℕ} → r ≡ propagated.Stable k → Refuted S c f₀ t₀ n₀ f t r
+  pub refuted_good : {r : Outcome} → r ≡ Stable → Refuted S c f₀ t₀ n₀ f t k r
       → Moved (Both S c) f₀ t₀ n₀ f t k × Good S (truth f) × Denies (truth f) c
-  refuted_good e v = unfold Refuted in subst (Refuted S c f₀ t₀ n₀ f t) e v
+  refuted_good e v = unfold Refuted in subst (Refuted S c f₀ t₀ n₀ f t k) e v
+
+  -- the trail has grown, whatever the answer
+  pub refuted_moved : (r : Outcome) → Refuted S c f₀ t₀ n₀ f t k r → Moved (Both S c) f₀ t₀ n₀ f t k
+  refuted_moved Conflict v = (refuted_clash refl v).0
+  refuted_moved Stable v = (refuted_good refl v).0

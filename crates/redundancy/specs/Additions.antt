@@ -1,17 +1,16 @@
 -- What the contracts of additions say. Assumes nothing.
-use Rattle.std.specs.Prelude.{◌≡◌, Bool, true, false, not, ◌||◌, List, ◌++◌, map, ℕ, ◌<◌, eqb, ℤ, get_or}
+use Rattle.std.specs.Prelude.{◌≡◌, Bool, true, false, not, ◌||◌, List, [], ◌∷◌, ◌++◌, map, ℕ, ◌<◌, eqb, get_or, Option, Some, None}
 use Rattle.lines.specs.Lists.{all, keep}
 use Rattle.rules.specs.Literals.{negate, holds}
 use Rattle.rules.specs.Codes.{lit_of, flip}
 use Rattle.rules.specs.Propagation.{rup, less, rat}
-use Rattle.propagation.specs.declared.Visit.{Visit}
-use Rattle.propagation.specs.declared.Visit.TheVariants as visit
-use Rattle.propagation.specs.declared.Propagated.{Propagated}
-use Rattle.propagation.specs.declared.Propagated.TheVariants as propagated
-use Rattle.redundancy.specs.declared.Addition.{Addition}
-use Rattle.redundancy.specs.declared.Addition.TheVariants.{Accepted, Refused}
-use Rattle.clauses.specs.declared.Cursor.{Cursor}
-use Rattle.clauses.specs.Standing.{literals, literals_from}
+use Rattle.rules.specs.declared.Outcome.{Outcome}
+use Rattle.rules.specs.declared.Outcome.TheVariants as outcome
+use Rattle.redundancy.specs.declared.Joined.{Joined}
+use Rattle.trail.specs.declared.Trail.{Trail}
+use Rattle.cells.specs.declared.Codes.{Codes}
+use Rattle.cells.specs.Codes.{codes_left}
+use Rattle.clauses.specs.Standing.{literals}
 use Rattle.trail.specs.Trail.{truth, Ready}
 use Rattle.propagation.specs.Answers.{Good, Denies, Holds, Moved, Clash, Held}
 
@@ -31,58 +30,64 @@ rat_of S c = rat (literals S) (map lit_of c)
 unfoldable pub accepts : List (List ℕ) → List ℕ → Bool
 accepts S c = rup (literals S) (map lit_of c) || rat (literals S) (map lit_of c)
 
+-- the first written literal
+abbrev pub first_of : List ℕ → Option ℕ
+first_of [] = None
+first_of (l ∷ c) = Some l
+
 -- a clause less a literal
 unfoldable pub less_code : ℕ → List ℕ → List ℕ
 less_code x d = keep (λ m. not (eqb m x)) d
 
 -- THE LITERALS OF A CLAUSE ARE FALSE NOW; or no consistent test that holds the trail has their negations
-unfoldable pub Denied : List ℕ → List ℕ → List ℕ → ℕ → List ℕ → List ℕ → Visit → Type 0
-Denied c f₀ t₀ n₀ f t (visit.Conflict n) =
+unfoldable pub Denied : List ℕ → List ℕ → List ℕ → ℕ → List ℕ → List ℕ → ℕ → Outcome → Type 0
+Denied c f₀ t₀ n₀ f t n outcome.Conflict =
     Moved (λ Q. Denies Q c) f₀ t₀ n₀ f t n
     × ((Q : ℕ → Bool) → ((l : ℕ) → Q l ≡ true → Q (flip l) ≡ true → ⊥) → Denies Q c → Holds Q t₀ n₀ → ⊥)
-Denied c f₀ t₀ n₀ f t (visit.Go n) = Moved (λ Q. Denies Q c) f₀ t₀ n₀ f t n × Denies (truth f) c
+Denied c f₀ t₀ n₀ f t n outcome.Stable = Moved (λ Q. Denies Q c) f₀ t₀ n₀ f t n × Denies (truth f) c
 
 -- a good test that denies c
 abbrev pub Both : List (List ℕ) → List ℕ → (ℕ → Bool) → Type 0
 Both S c Q = Good S Q × Denies Q c
 
 -- propagation from the negations of c: a conflict, or a good test
-unfoldable pub Refuted : List (List ℕ) → List ℕ → List ℕ → List ℕ → ℕ → List ℕ → List ℕ → Propagated → Type 0
-Refuted S c f₀ t₀ n₀ f t (propagated.Conflict n) = Moved (Both S c) f₀ t₀ n₀ f t n × Clash (Both S c) t₀ n₀
-Refuted S c f₀ t₀ n₀ f t (propagated.Stable n) = Moved (Both S c) f₀ t₀ n₀ f t n × Good S (truth f) × Denies (truth f) c
+unfoldable pub Refuted : List (List ℕ) → List ℕ → List ℕ → List ℕ → ℕ → List ℕ → List ℕ → ℕ → Outcome → Type 0
+Refuted S c f₀ t₀ n₀ f t n outcome.Conflict = Moved (Both S c) f₀ t₀ n₀ f t n × Clash (Both S c) t₀ n₀
+Refuted S c f₀ t₀ n₀ f t n outcome.Stable = Moved (Both S c) f₀ t₀ n₀ f t n × Good S (truth f) × Denies (truth f) c
 
 -- the trail follows from the standing clauses and the negations of c
 unfoldable pub Follows : List (List ℕ) → List ℕ → List ℕ → ℕ → Type 0
 Follows S c t n = (Q : ℕ → Bool) → Good S Q → Denies Q c → Holds Q t n
 
 -- after a candidate the trail is cut back to what it was
-pub record Tried (t : List ℕ) (n : ℕ) (f' t' : List ℕ) : Type 0 where
-  pub ready : Ready f' t' n
+pub record Tried (t : List ℕ) (n : ℕ) (f' t' : List ℕ) (n' : ℕ) : Type 0 where
+  pub ready : Ready f' t' n'
+  pub same : n' ≡ n
   pub kept : (k : ℕ) → k < n → get_or t' k 0 ≡ get_or t k 0
 
 -- an addition is accepted, and the trail is kept for the next line; or it is refused
-unfoldable pub Decided : List (List ℕ) → List ℕ → List ℕ → List ℕ → Addition → Type 0
-Decided S c f t (Accepted u) = Held S f t u.n × (accepts S c ≡ true)
-Decided S c f t Refused = accepts S c ≡ false
+unfoldable pub Decided : List (List ℕ) → List ℕ → List ℕ → List ℕ → ℕ → Option ℕ → Type 0
+Decided S c f t n (Some q) = Held S f t n × (accepts S c ≡ true)
+Decided S c f t n None = accepts S c ≡ false
 
 -- AS CONTRACTS NAME THEM: clause d less a literal, clause c joined with it, and what becomes of the values and the trail
-abbrev pub less_in : List ℤ → Cursor → ℕ → List ℕ
-less_in t d x = less_code x (literals_from t d)
+abbrev pub less_in : Codes → ℕ → List ℕ
+less_in d x = less_code x (codes_left d)
 
-abbrev pub joined_in : List ℤ → Cursor → Cursor → ℕ → List ℕ
-joined_in t c d x = literals_from t c ++ less_in t d x
+abbrev pub joined_in : Joined → List ℕ
+joined_in j = codes_left j.c ++ less_in j.d j.skip
 
-abbrev pub DeniedIn : List ℕ → List ℕ → List ℕ → ℕ → List ℕ → List ℕ → Visit → Type 0
-DeniedIn c f t n f' t' r = Denied c f t n f' t' r
+abbrev pub DeniedIn : List ℕ → Trail → Trail → Outcome → Type 0
+DeniedIn c a b r = Denied c a.falses a.literals a.length b.falses b.literals b.length r
 
-abbrev pub RefutedIn : List (List ℕ) → List ℕ → List ℕ → List ℕ → ℕ → List ℕ → List ℕ → Propagated → Type 0
-RefutedIn S c f t n f' t' r = Refuted S c f t n f' t' r
+abbrev pub RefutedIn : List (List ℕ) → List ℕ → Trail → Trail → Outcome → Type 0
+RefutedIn S c a b r = Refuted S c a.falses a.literals a.length b.falses b.literals b.length r
 
-abbrev pub FollowsIn : List (List ℕ) → List ℕ → List ℕ → ℕ → Type 0
-FollowsIn S c t n = Follows S c t n
+abbrev pub FollowsIn : List (List ℕ) → List ℕ → Trail → Type 0
+FollowsIn S c a = Follows S c a.literals a.length
 
-abbrev pub TriedIn : List ℕ → ℕ → List ℕ → List ℕ → Type 0
-TriedIn t n f' t' = Tried t n f' t'
+abbrev pub TriedIn : Trail → Trail → Type 0
+TriedIn a b = Tried a.literals a.length b.falses b.literals b.length
 
-abbrev pub DecidedIn : List (List ℕ) → List ℕ → List ℕ → List ℕ → Addition → Type 0
-DecidedIn S c f t r = Decided S c f t r
+abbrev pub DecidedIn : List (List ℕ) → List ℕ → Trail → Option ℕ → Type 0
+DecidedIn S c a r = Decided S c a.falses a.literals a.length r

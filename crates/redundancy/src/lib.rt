@@ -2,154 +2,90 @@
 #![tactic(auto)]
 
 ghost use Rattle.std.specs.Prelude.{◌≡◌};
-ghost use Rattle.clauses.specs.Standing.{standing_in, literals_in, literal_at};
+ghost use Rattle.cells.specs.Codes.{codes_left};
+ghost use Rattle.clauses.specs.Standing.{standing_of};
 ghost use Rattle.trail.specs.Trail.{ReadyIn};
 ghost use Rattle.propagation.specs.Answers.{HeldIn};
-ghost use Rattle.redundancy.specs.Additions.{rup_of, rat_on, rat_of, less_in, joined_in, DeniedIn, RefutedIn, FollowsIn, TriedIn, DecidedIn};
+ghost use Rattle.redundancy.specs.Additions.{rup_of, rat_on, rat_of, first_of, less_in, joined_in, DeniedIn, RefutedIn, FollowsIn, TriedIn, DecidedIn};
 
-use clauses::{Cursor, after, clause, holds, literal, none, stands};
-use propagation::{Propagated, Units, Visit, Watches, ground, propagate};
-use trail::{Falses, Trail, assume, flip, is_true, undo};
+use cells::Codes;
+use clauses::{Standing, holds, none};
+use propagation::{Watches, ground, propagate};
+use rules::Outcome;
+use trail::{Trail, flip};
 
+// Clause c joined with clause d less the literal skip.
 #[derive(Clone, Copy)]
-pub enum Addition {
-    Accepted(Units),
-    Refused,
+struct Joined<'a> {
+    c: Codes<'a>,
+    d: Codes<'a>,
+    skip: u32,
 }
 
 // Makes the literals of a clause but skip false, until one of them is true.
-fn deny(
-    table: &[i32],
-    start: Cursor,
-    skip: u32,
-    falses: &mut Falses,
-    trail: &mut Trail,
-    from: usize,
-) -> Visit
-    ensures { ReadyIn falses.old trail.old from
-        → DeniedIn (less_in table.now start skip)
-        falses.old trail.old from falses.new trail.new result }
+fn deny(clause: Codes, skip: u32, trail: &mut Trail) -> Outcome
+    ensures { ReadyIn trail.old → DeniedIn (less_in clause.entry skip) trail.old trail.new result }
 {
-    let mut n = from;
-    let mut i = start;
-    loop {
-        let l = literal(table, i);
-        if l == 0 {
-            return Visit::Go(n);
-        }
-        i = after(table, i);
+    for l in clause {
         if l != skip {
-            if is_true(falses, l) {
-                return Visit::Conflict(n);
+            if trail.is_true(l) {
+                return Outcome::Conflict;
             }
-            n = assume(falses, trail, n, l);
+            trail.assume(l);
         }
     }
+    Outcome::Stable
 }
 
-// The same for clause c joined with clause d less skip.
-fn deny_both(
-    table: &[i32],
-    c: Cursor,
-    d: Cursor,
-    skip: u32,
-    falses: &mut Falses,
-    trail: &mut Trail,
-    from: usize,
-) -> Visit
-    ensures { ReadyIn falses.old trail.old from
-        → DeniedIn (joined_in table.now c d skip)
-        falses.old trail.old from falses.new trail.new result }
+// The same for a joined clause.
+fn deny_both(joined: Joined, trail: &mut Trail) -> Outcome
+    ensures { ReadyIn trail.old → DeniedIn (joined_in joined.entry) trail.old trail.new result }
 {
-    match deny(table, c, 0, falses, trail, from) {
-        Visit::Conflict(k) => Visit::Conflict(k),
-        Visit::Go(k) => deny(table, d, skip, falses, trail, k),
-    }
+    let Outcome::Stable = deny(joined.c, 0, trail) else {
+        return Outcome::Conflict;
+    };
+    deny(joined.d, joined.skip, trail)
 }
 
-// Propagation from the negations of clause c joined with clause d less skip.
-fn refute(
-    table: &[i32],
-    marks: &[i32],
-    count: usize,
-    falses: &mut Falses,
-    trail: &mut Trail,
-    from: usize,
-    watches: &mut Watches,
-    c: Cursor,
-    d: Cursor,
-    skip: u32,
-) -> Propagated
-    ensures { ReadyIn falses.old trail.old from
-        → RefutedIn (standing_in table.now marks.now count) (joined_in table.now c d skip)
-        falses.old trail.old from falses.new trail.new result }
+// Propagation from the negations of a joined clause.
+fn refute(standing: Standing, trail: &mut Trail, watches: &mut Watches, joined: Joined) -> Outcome
+    ensures { ReadyIn trail.old
+        → RefutedIn (standing_of standing.entry) (joined_in joined.entry) trail.old trail.new result }
 {
-    match deny_both(table, c, d, skip, falses, trail, from) {
-        Visit::Conflict(k) => Propagated::Conflict(k),
-        Visit::Go(k) => propagate(table, marks, count, falses, trail, from, k, watches),
-    }
+    let from = trail.length;
+    let Outcome::Stable = deny_both(joined, trail) else {
+        return Outcome::Conflict;
+    };
+    propagate(standing, trail, from, watches)
 }
 
-// Whether that joined clause is RUP; the trail is cut back, so that the next candidate starts anew.
-fn candidate(
-    table: &[i32],
-    marks: &[i32],
-    count: usize,
-    falses: &mut Falses,
-    trail: &mut Trail,
-    from: usize,
-    watches: &mut Watches,
-    c: Cursor,
-    d: Cursor,
-    skip: u32,
-) -> bool
-    ensures { ReadyIn falses.old trail.old from
-        → FollowsIn (standing_in table.now marks.now count) (literals_in table.now c) trail.old from
-        → TriedIn trail.old from falses.new trail.new
-        × (result ≡ rup_of (standing_in table.now marks.now count) (joined_in table.now c d skip)) }
+// Whether a joined clause is RUP; the trail is cut back, so that the next candidate starts anew.
+fn candidate(standing: Standing, trail: &mut Trail, watches: &mut Watches, joined: Joined) -> bool
+    ensures { ReadyIn trail.old
+        → FollowsIn (standing_of standing.entry) (codes_left joined.entry.c) trail.old
+        → TriedIn trail.old trail.new × (result ≡ rup_of (standing_of standing.entry) (joined_in joined.entry)) }
 {
-    match refute(
-        table, marks, count, falses, trail, from, watches, c, d, skip,
-    ) {
-        Propagated::Conflict(k) => {
-            undo(falses, trail, k, from);
-            true
-        }
-        Propagated::Stable(j) => {
-            undo(falses, trail, j, from);
-            false
-        }
+    let from = trail.length;
+    let outcome = refute(standing, trail, watches, joined);
+    trail.undo(from);
+    match outcome {
+        Outcome::Conflict => true,
+        Outcome::Stable => false,
     }
 }
 
 // Every standing clause that holds the negation of l is a candidate.
-fn each(
-    table: &[i32],
-    marks: &[i32],
-    count: usize,
-    falses: &mut Falses,
-    trail: &mut Trail,
-    from: usize,
-    watches: &mut Watches,
-    c: Cursor,
-    l: u32,
-) -> bool
-    ensures { ReadyIn falses.old trail.old from
-        → FollowsIn (standing_in table.now marks.now count) (literals_in table.now c) trail.old from
-        → TriedIn trail.old from falses.new trail.new
-        × (result ≡ rat_on (standing_in table.now marks.now count) (literals_in table.now c) l) }
+fn each(standing: Standing, trail: &mut Trail, watches: &mut Watches, c: Codes, l: u32) -> bool
+    ensures { ReadyIn trail.old
+        → FollowsIn (standing_of standing.entry) (codes_left c.entry) trail.old
+        → TriedIn trail.old trail.new × (result ≡ rat_on (standing_of standing.entry) (codes_left c.entry) l) }
 {
     let skip = flip(l);
-    let mut k = 0;
-    while k < count {
-        let at = k;
-        k += 1;
-        if stands(table, marks, at) {
-            let d = clause(table, marks, at);
-            if holds(table, d, skip) {
-                if !candidate(
-                    table, marks, count, falses, trail, from, watches, c, d, skip,
-                ) {
+    for k in 0..standing.count {
+        if standing.stands(k) {
+            let d = standing.clause(k);
+            if holds(d, skip) {
+                if !candidate(standing, trail, watches, Joined { c, d, skip }) {
                     return false;
                 }
             }
@@ -159,76 +95,49 @@ fn each(
 }
 
 // The literal on which an addition is tested for RAT: "its first written literal".
-fn pivot(table: &[i32], c: Cursor) -> u32
-    ensures { result ≡ literal_at table.now c }
+fn pivot(mut clause: Codes) -> Option<u32>
+    ensures { result ≡ first_of (codes_left clause.entry) }
 {
-    literal(table, c)
+    clause.next()
 }
 
 // Whether clause c, whose negations are on the trail, is RAT.
-fn is_rat(
-    table: &[i32],
-    marks: &[i32],
-    count: usize,
-    falses: &mut Falses,
-    trail: &mut Trail,
-    from: usize,
-    watches: &mut Watches,
-    c: Cursor,
-) -> bool
-    ensures { ReadyIn falses.old trail.old from
-        → FollowsIn (standing_in table.now marks.now count) (literals_in table.now c) trail.old from
-        → TriedIn trail.old from falses.new trail.new
-        × (result ≡ rat_of (standing_in table.now marks.now count) (literals_in table.now c)) }
+fn is_rat(standing: Standing, trail: &mut Trail, watches: &mut Watches, c: Codes) -> bool
+    ensures { ReadyIn trail.old
+        → FollowsIn (standing_of standing.entry) (codes_left c.entry) trail.old
+        → TriedIn trail.old trail.new × (result ≡ rat_of (standing_of standing.entry) (codes_left c.entry)) }
 {
-    let l = pivot(table, c);
-    if l == 0 {
+    let Some(l) = pivot(c) else {
         return false;
-    }
-    each(table, marks, count, falses, trail, from, watches, c, l)
+    };
+    each(standing, trail, watches, c, l)
 }
 
-// Whether the addition c is RUP or RAT.
+// Whether the addition c is RUP or RAT: up to where the watches of the trail are followed then. None: it is neither.
 pub fn add(
-    table: &[i32],
-    marks: &[i32],
-    count: usize,
-    falses: &mut Falses,
+    standing: Standing,
     trail: &mut Trail,
-    units: Units,
+    q: usize,
     watches: &mut Watches,
-    c: Cursor,
-) -> Addition
-    ensures { HeldIn (standing_in table.now marks.now count) falses.old trail.old units.n
-        → DecidedIn (standing_in table.now marks.now count) (literals_in table.now c) falses.new trail.new result }
+    c: Codes,
+) -> Option<usize>
+    ensures { HeldIn (standing_of standing.entry) trail.old
+        → DecidedIn (standing_of standing.entry) (codes_left c.entry) trail.new result }
 {
-    let from = units.n;
-    let q = units.q;
-    match ground(table, marks, count, falses, trail, q, from, watches) {
-        Visit::Conflict(b) => Addition::Accepted(Units { n: b, q: q }),
-        Visit::Go(b) => match refute(
-            table,
-            marks,
-            count,
-            falses,
-            trail,
-            b,
-            watches,
-            c,
-            none(table),
-            0,
-        ) {
-            Propagated::Conflict(k) => {
-                undo(falses, trail, k, b);
-                Addition::Accepted(Units { n: b, q: b })
-            }
-            Propagated::Stable(k) => {
-                if is_rat(table, marks, count, falses, trail, k, watches, c) {
-                    undo(falses, trail, k, b);
-                    return Addition::Accepted(Units { n: b, q: b });
-                }
-                Addition::Refused
-            }
-        },
+    let Outcome::Stable = ground(standing, trail, q, watches) else {
+        return Some(q);
+    };
+    let base = trail.length;
+    let joined = Joined {
+        c,
+        d: none(standing.proof),
+        skip: 0,
+    };
+    if let Outcome::Stable = refute(standing, trail, watches, joined) {
+        if !is_rat(standing, trail, watches, c) {
+            return None;
+        }
     }
+    trail.undo(base);
+    Some(base)
 }

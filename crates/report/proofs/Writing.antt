@@ -4,8 +4,8 @@ use mathlib.Core.List.{List, [], ◌∷◌, ◌++◌, append_assoc, append-nil}
 use Prim.Native.Nat.{ℕ, ◌+◌, ◌<◌}
 use native.Mathlib.Numerals.{add-one}
 use native.Mathlib.Omega.{arith}
-use lib.ListN.{length, take, drop, set, get_or, length-append, length-set}
-use lib.Seq.{take-suc, take-suc-set, drop-set-lt, drop-drop}
+use lib.ListN.{length, take, drop, set, length-append, length-set}
+use lib.Seq.{take-suc-set, drop-set-lt, drop-drop}
 use Rattle.report.specs.Written.{Written}
 
 pub written_none : (a : List ℕ) (at : ℕ) → Written a at [] a at
@@ -29,8 +29,3 @@ written_then {a} {b} {c} {bs} {cs} {at} {k} {m} f g = record {
 
 pub written_as : {a b bs cs : List ℕ} {at k : ℕ} → bs ≡ cs → Written a at bs b k → Written a at cs b k
 written_as {a} {b} {bs} {cs} {at} {k} e f = record { next = f.next ∙ ap (λ l. at + length l) e; same = f.same; front = f.front ∙ ap (λ l. take at a ++ l) e; rest = f.rest }
-
--- one byte of a list more
-pub written_next : {a b : List ℕ} (bytes : List ℕ) (i : ℕ) → i < length bytes → i < length b → Written a 0 (take i bytes) b i
-    → Written a 0 (take (i + 1) bytes) (set b i (get_or bytes i 0)) (i + 1)
-written_next {b = b} bytes i h g f = written_as (sym (rw (add-one, take-suc bytes i 0))) (written_then f (written_byte b i (get_or bytes i 0) g))

@@ -40,12 +40,8 @@ fn put_bytes(out: &mut [u8], bytes: &[u8]) -> usize
     requires { length bytes.now ≤ length out.old }
     ensures { Written out.old 0 bytes.now out.new result }
 {
-    let mut i = 0;
-    while i < bytes.len() {
-        out[i] = bytes[i];
-        i += 1;
-    }
-    i
+    out[..bytes.len()].copy_from_slice(bytes);
+    bytes.len()
 }
 
 fn put_word(out: &mut [u8], v: Verdict) -> usize
@@ -54,11 +50,7 @@ fn put_word(out: &mut [u8], v: Verdict) -> usize
 {
     match v {
         Verdict::Accepted => put_bytes(out, b"accepted"),
-        Verdict::Refused {
-            number: _,
-            file: _,
-            line: _,
-        } => put_bytes(out, b"refused"),
+        Verdict::Refused { .. } => put_bytes(out, b"refused"),
     }
 }
 
@@ -97,10 +89,8 @@ fn put_fields(out: &mut [u8], at: usize, fields: &[u32]) -> usize
         × (result ≤ at + 11 * length fields.now) }
 {
     let mut k = at;
-    let mut i = 0;
-    while i < fields.len() {
-        k = put_field(out, k, fields[i]);
-        i += 1;
+    for n in fields {
+        k = put_field(out, k, *n);
     }
     k
 }

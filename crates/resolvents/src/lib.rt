@@ -1,15 +1,15 @@
 // Whether a clause is the resolvent of two others, in time linear in the three: by a walk over each parent and two or three over the clause.
-#![tactic(auto)]
 // The clause's codes are marked in an array that is lent and left clear: with 1, and the signs of the parents that hold the code too.
+#![tactic(auto)]
+
 ghost use Rattle.std.specs.Prelude.{◌≡◌, ◌≤◌, ◌<◌, eqb};
 ghost use Rattle.lines.specs.Lists.{any};
-ghost use Rattle.clauses.specs.Standing.{literals_in};
+ghost use Rattle.cells.specs.Codes.{codes_left};
 ghost use Rattle.resolvents.specs.Resolves.{resolves as resolvesCodes};
 ghost use Rattle.resolvents.specs.Marks.{Clear, each, to, raise as raised, lacks, covered, in_all};
 ghost use Rattle.resolvents.specs.Marks.{meet as met, stray as strayOf, may_leave, pivot, candidates};
 
-use cells::wide;
-use clauses::{Cursor, after, literal};
+use cells::Codes;
 use trail::flip;
 
 // The signs of the first and the second parent.
@@ -26,37 +26,26 @@ const SEVERAL: u32 = 1;
 pub type Seen = [u8; 65536];
 
 // The codes of the clause are marked.
-fn mark(table: &[i32], start: Cursor, seen: &mut Seen)
-    ensures { seen.new ≡ each (to 1) (literals_in table.now start) seen.old }
+fn mark(clause: Codes, seen: &mut Seen)
+    ensures { seen.new ≡ each (to 1) (codes_left clause.entry) seen.old }
 {
-    let mut i = start;
-    loop {
-        let y = literal(table, i);
-        if y == 0 {
-            return;
-        }
-        i = after(table, i);
-        seen[wide(y)] = 1;
+    for y in clause {
+        seen[y as usize] = 1;
     }
 }
 
 // They are marked no more. Whether each had a parent's sign.
-fn unmark(table: &[i32], start: Cursor, seen: &mut Seen) -> bool
-    ensures { (result ≡ covered seen.old (literals_in table.now start))
-        × (seen.new ≡ each (to 0) (literals_in table.now start) seen.old) }
+fn unmark(clause: Codes, seen: &mut Seen) -> bool
+    ensures { (result ≡ covered seen.old (codes_left clause.entry))
+        × (seen.new ≡ each (to 0) (codes_left clause.entry) seen.old) }
 {
     let mut all = true;
-    let mut i = start;
-    loop {
-        let y = literal(table, i);
-        if y == 0 {
-            return all;
-        }
-        i = after(table, i);
-        let k = wide(y);
+    for y in clause {
+        let k = y as usize;
         all = all & (seen[k] != 1);
         seen[k] = 0;
     }
+    all
 }
 
 // A mark with a parent's sign, the largest so far; no mark stays none.
@@ -84,24 +73,19 @@ fn meet(m: u8, p: u32, y: u32) -> u32
 }
 
 // The marks of a parent's codes get its sign. The one code of the parent that the clause does not hold; 0 if there is none, SEVERAL if there are more.
-fn stray(table: &[i32], start: Cursor, sign: u8, seen: &mut Seen) -> u32
+fn stray(clause: Codes, sign: u8, seen: &mut Seen) -> u32
     requires { sign ≤ 4 }
-    ensures { (result ≡ strayOf (lacks seen.old) (literals_in table.now start) 0) × (result < 65536)
-        × (seen.new ≡ each (raised sign) (literals_in table.now start) seen.old) }
+    ensures { (result ≡ strayOf (lacks seen.old) (codes_left clause.entry) 0) × (result < 65536)
+        × (seen.new ≡ each (raised sign) (codes_left clause.entry) seen.old) }
 {
     let mut p = 0;
-    let mut i = start;
-    loop {
-        let y = literal(table, i);
-        if y == 0 {
-            return p;
-        }
-        i = after(table, i);
-        let k = wide(y);
+    for y in clause {
+        let k = y as usize;
         let m = seen[k];
         seen[k] = raise(m, sign);
         p = meet(m, p, y);
     }
+    p
 }
 
 // Whether the code x may leave a parent with the stray code p: it is that one, or, where there is none, all three clauses hold it.
@@ -110,7 +94,7 @@ fn may_leave(p: u32, x: u32, seen: &Seen) -> bool
     ensures { result ≡ may_leave (in_all seen.now) p x }
 {
     if p == 0 {
-        return seen[wide(x)] == IN_ALL;
+        return seen[x as usize] == IN_ALL;
     }
     p == x
 }
@@ -124,9 +108,9 @@ fn is_pivot(x: u32, p: u32, q: u32, seen: &Seen) -> bool
 }
 
 // Whether some code may. A stray code tells which; where there is none, the clause holds it.
-fn has_pivot(table: &[i32], start: Cursor, p: u32, q: u32, seen: &Seen) -> bool
+fn has_pivot(clause: Codes, p: u32, q: u32, seen: &Seen) -> bool
     requires { (p < 65536) × (q < 65536) }
-    ensures { result ≡ any (pivot (in_all seen.now) p q) (candidates p q (literals_in table.now start)) }
+    ensures { result ≡ any (pivot (in_all seen.now) p q) (candidates p q (codes_left clause.entry)) }
 {
     if p != 0 {
         return is_pivot(p, p, q, seen);
@@ -134,28 +118,23 @@ fn has_pivot(table: &[i32], start: Cursor, p: u32, q: u32, seen: &Seen) -> bool
     if q != 0 {
         return is_pivot(flip(q), p, q, seen);
     }
-    let mut i = start;
-    loop {
-        let x = literal(table, i);
-        if x == 0 {
-            return false;
-        }
-        i = after(table, i);
+    for x in clause {
         if is_pivot(x, p, q, seen) {
             return true;
         }
     }
+    false
 }
 
 // Whether c is the resolvent of d and e on some variable, whichever of them holds it positive.
-pub fn resolves(table: &[i32], c: Cursor, d: Cursor, e: Cursor, seen: &mut Seen) -> bool
+pub fn resolves(c: Codes, d: Codes, e: Codes, seen: &mut Seen) -> bool
     ensures { Clear seen.old
-        → (result ≡ resolvesCodes (literals_in table.now c) (literals_in table.now d) (literals_in table.now e))
+        → (result ≡ resolvesCodes (codes_left c.entry) (codes_left d.entry) (codes_left e.entry))
         × Clear seen.new }
 {
-    mark(table, c, seen);
-    let p = stray(table, d, IN_D, seen);
-    let q = stray(table, e, IN_E, seen);
-    let found = has_pivot(table, c, p, q, seen);
-    unmark(table, c, seen) & found
+    mark(c, seen);
+    let p = stray(d, IN_D, seen);
+    let q = stray(e, IN_E, seen);
+    let found = has_pivot(c, p, q, seen);
+    unmark(c, seen) & found
 }

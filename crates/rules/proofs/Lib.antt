@@ -21,3 +21,4 @@ pub mod ExpansionSound
 pub mod Sound
 pub mod Theorem
 pub mod Truths
+pub mod RuleLaws

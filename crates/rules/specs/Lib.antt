@@ -11,6 +11,7 @@ pub mod Propagation
 pub mod FormulaLines
 pub mod CertificateLines
 pub mod Verdict
+pub mod Rule
 pub mod Falsity
 pub mod Render
 pub mod Least

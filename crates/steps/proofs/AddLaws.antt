@@ -1,6 +1,7 @@
 -- Laws of the judge of an addition. Assumes nothing.
 use mathlib.Core.Path.{◌≡◌, refl, ap, ap₂, sym, ◌∙◌, subst}
 use mathlib.Core.Bool.{Bool, true, false, not, ◌||◌, false≢true}
+use Rattle.std.specs.Prelude.{Option, Some, None}
 use mathlib.Core.List.{List, [], ◌∷◌, ◌++◌, map}
 use Prim.Native.Nat.{ℕ, ◌+◌, ◌<◌}
 use native.Mathlib.Omega.{arith}
@@ -9,41 +10,41 @@ use lib.IntN.{ℤ}
 use Rattle.rules.specs.Literals.{Lits}
 use Rattle.rules.specs.Codes.{code_of, lit_of}
 use Rattle.rules.specs.Formula.{Formula}
+use Rattle.rules.specs.declared.Rule.TheVariants.{HintCount, NotImplied}
 use Rattle.rules.specs.Forms.{addition}
 use Rattle.rules.specs.Limits.{limits}
 use Rattle.rules.specs.Step.{◌unless◌, ◌then◌}
 use Rattle.rules.specs.Propagation.{rup, rat}
 use Rattle.rules.specs.CertificateLines.{State, state, needing, no_hint_left, kind_rules, accept}
 use Rattle.rules.proofs.CodesLaw.{lits_codes}
-use Rattle.tables.specs.Tables.{Tables, tables, lengths_of, KeptAll}
+use Rattle.tables.specs.Tables.{Tables, lengths_of, KeptAll}
 use Rattle.tables.proofs.Frames.{all_self}
-use Rattle.clauses.specs.declared.Cursor.{Cursor}
-use Rattle.clauses.specs.Standing.{standing, places_of, literals_from, pending_from, pending}
-use Rattle.propagation.specs.declared.Units.{Units}
-use Rattle.propagation.specs.Answers.{Held}
-use Rattle.redundancy.specs.declared.Addition.{Addition}
-use Rattle.redundancy.specs.declared.Addition.TheVariants.{Accepted, Refused}
-use Rattle.redundancy.specs.Additions.{accepts, Decided}
+use Rattle.clauses.specs.Standing.{standing, places_of, pending}
+use Rattle.trail.specs.declared.Trail.{Trail}
+use Rattle.propagation.specs.declared.Watches.{Watches}
+use Rattle.propagation.specs.Answers.{HeldIn}
+use Rattle.redundancy.specs.Additions.{accepts, Decided, DecidedIn}
 use Rattle.reading.specs.declared.Counts.{Counts}
 use Rattle.progress.specs.declared.Progress.{Progress}
-use Rattle.progress.specs.declared.Step.TheVariants.{Next, Refuse}
+use Rattle.std.specs.Prelude.{Ok, Err}
 use Rattle.progress.specs.Order.{hint_left}
-use Rattle.progress.specs.Shown.{Work, work, clauses_of, Shown, Light, Stepped}
-use Rattle.steps.specs.Judges.{kind_judge, Pending, Judges}
+use Rattle.progress.specs.declared.Work.{Work}
+use Rattle.progress.specs.Shown.{clauses_of, Shown, Light, Stepped}
+use Rattle.steps.specs.Judges.{kind_judge, Pending, Judges, Rest}
 use Rattle.steps.specs.Stands.{one_addition, Standable, Stands}
-use Rattle.steps.proofs.JudgeLaws.{judge_kind, judge_next, refused_in, accepted_in}
+use Rattle.steps.proofs.JudgeLaws.{judge_kind, judge_next, refused_in, accepted_in, judged_as}
 use Rattle.progress.proofs.OrderLaws.{hint_left_lem}
 use Rattle.steps.proofs.StandLaws.{additions_add, clause_needs_lem, more_is, small_then, stood_kept, stood_shown, stood_weight}
 
 -- what an addition's answer says
-module _ (S : List (List ℕ)) (c : List ℕ) (f t : List ℕ) (r : Addition) (d : Decided S c f t r) where
-  pub decided_yes : {u : Units} → r ≡ Accepted u → Held S f t u.n × (accepts S c ≡ true)
+module _ (S : List (List ℕ)) (c : List ℕ) (t : Trail) (r : Option ℕ) (d : DecidedIn S c t r) where
+  pub decided_yes : {q : ℕ} → r ≡ Some q → HeldIn S t × (accepts S c ≡ true)
   unfolding Decided
-  decided_yes e = subst (Decided S c f t) e d
+  decided_yes e = subst (DecidedIn S c t) e d
 
-  pub decided_no : r ≡ Refused → accepts S c ≡ false
+  pub decided_no : r ≡ None → accepts S c ≡ false
   unfolding Decided
-  decided_no e = subst (Decided S c f t) e d
+  decided_no e = subst (DecidedIn S c t) e d
 
 module _ {p : Progress} {t : Tables} {w : Work} {f : Formula} {s : State} (sh : Shown p t w f s) {n m : ℕ} {c : Lits} (o : Pending p t n m c) where
   kinds : (a : Bool) {b : Bool} → hint_left p ≡ not a → accepts (clauses_of p t) (pending t.proof p.store) ≡ b
@@ -62,45 +63,42 @@ module _ {p : Progress} {t : Tables} {w : Work} {f : Formula} {s : State} (sh : 
 
 module _ (p : Progress) (n m : ℕ) (t : Tables) (w : Work) where
   -- "hint count": a hint is left over
-  pub add_left : hint_left p ≡ true → (v : Work) → Judges addition p n m t w (Refuse 10) t v
+  pub add_left : hint_left p ≡ true → (v : Work) → Judges addition p n m t w (Err HintCount) t v
   add_left h v = record {
     steps = λ c k f s o sh l i.
-        refused_in f p k t t v (judge_kind (limits (lengths_of t)) f s (addition c) (kinds sh o false h refl)) (all_self _ t);
+        refused_in f p k t t v HintCount (judge_kind (limits (lengths_of t)) f s (addition c) (kinds sh o false h refl)) (all_self _ t);
   }
 
-  module _ (h : hint_left p ≡ false) (f₁ t₁ : List ℕ) (r : Addition) {count : ℕ} (j : count ≡ places_of p.store) {start : Cursor} (y : start ≡ pending_from p.store)
-      (answered : Held (standing t.proof t.marks count) w.falses w.trail p.units.n
-      → Decided (standing t.proof t.marks count) (literals_from t.proof start) f₁ t₁ r) where
-    decided : Held (clauses_of p t) w.falses w.trail p.units.n → Decided (clauses_of p t) (pending t.proof p.store) f₁ t₁ r
-    decided =
-        subst (λ n. Held (standing t.proof t.marks n) w.falses w.trail p.units.n
-        → Decided (standing t.proof t.marks n) (pending t.proof p.store) f₁ t₁ r) j
-        (subst (λ c. Held (standing t.proof t.marks count) w.falses w.trail p.units.n
-        → Decided (standing t.proof t.marks count) (literals_from t.proof c) f₁ t₁ r) y answered)
+  module _ (h : hint_left p ≡ false) (trail : Trail) (r : Option ℕ) {a b : List ℤ} {count : ℕ} (x : a ≡ t.proof) (z : b ≡ t.marks)
+      (d : count ≡ places_of p.store) {codes : List ℕ} (y : codes ≡ pending a p.store)
+      (answered : HeldIn (standing a b count) w.trail
+      → DecidedIn (standing a b count) codes trail r) where
+    decided : HeldIn (clauses_of p t) w.trail → DecidedIn (clauses_of p t) (pending t.proof p.store) trail r
+    decided g =
+        let e : standing a b count ≡ clauses_of p t = ap₂ (λ a b. standing a b count) x z ∙ ap (standing t.proof t.marks) d in
+        subst (λ S. DecidedIn S (pending t.proof p.store) trail r) e
+        (subst (λ c. DecidedIn (standing a b count) c trail r) (y ∙ ap (λ (a : List ℤ). pending a p.store) x)
+        (answered (subst (λ S. HeldIn S w.trail) (sym e) g)))
 
     -- "not implied"
-    pub add_refused : r ≡ Refused → (v : Work) → Judges addition p n m t w (Refuse 12) t v
+    pub add_refused : r ≡ None → (v : Work) → Judges addition p n m t w (Err NotImplied) t v
     add_refused e v = record {
       steps = λ c k f s o sh l i.
-          refused_in f p k t t v
+          refused_in f p k t t v NotImplied
           (judge_kind (limits (lengths_of t)) f s (addition c)
-          (kinds sh o true h (decided_no (clauses_of p t) (pending t.proof p.store) f₁ t₁ r (decided sh.held) e))) (all_self _ t);
+          (kinds sh o true h (decided_no (clauses_of p t) (pending t.proof p.store) trail r (decided sh.held) e))) (all_self _ t);
     }
 
     -- it stands
-    module _ {units : Units} (e : r ≡ Accepted units) {counts : Counts} (g : counts ≡ one_addition p.counts) {marks : List ℤ} {falses trail : List ℕ} {q : Progress}
-        (stands : Standable p units n t.proof t.marks f₁ t₁ → Stands p counts n m t.proof t.marks q marks falses trail) where
-      abbrev u : Tables
-      u = tables t.prefix t.matrix t.map t.proof marks t.values
-
-      abbrev v : Work
-      v = work w.starts w.noted falses trail
-
+    module _ {followed : ℕ} (e : r ≡ Some followed) {counts : Counts} (g : counts ≡ one_addition p.counts) (watches : Watches) {u : Tables} {v : Work} {q : Progress}
+        (rest : Rest t (record w { trail = trail; watches = watches }) u v)
+        (stands : Standable p n t (record w { trail = trail; watches = watches })
+        → Stands p counts n m t q u v) where
       module _ (c : Lits) (k : ℕ) (f : Formula) (s : State) (o : Pending p t n m c) (sh : Shown p t w f s) (l : Light p k) (i : n < k) where
-        answer : Held (clauses_of p t) f₁ t₁ units.n × (accepts (clauses_of p t) (pending t.proof p.store) ≡ true)
-        answer = decided_yes (clauses_of p t) (pending t.proof p.store) f₁ t₁ r (decided sh.held) e
+        answer : HeldIn (clauses_of p t) trail × (accepts (clauses_of p t) (pending t.proof p.store) ≡ true)
+        answer = decided_yes (clauses_of p t) (pending t.proof p.store) trail r (decided sh.held) e
 
-        stood : Stands p counts n m t.proof t.marks q marks falses trail
+        stood : Stands p counts n m t q u v
         stood = stands record {
           filled = sh.filled;
           count = o.count ∙ sym (length-map c code_of) ∙ ap length (sym o.stored);
@@ -112,19 +110,21 @@ module _ (p : Progress) (n m : ℕ) (t : Tables) (w : Work) where
         one : counts.additions ≡ s.additions + 1
         one = ap (λ (x : Counts). x.additions) g ∙ more_is (omega (arith, l)) ∙ ap (λ x. x + 1) sh.additions
 
-        next_state : Stepped f p k t (kind_judge f s (addition c)) (Next q) u v
+        next_state : Stepped f p k t (kind_judge f s (addition c)) (Ok q) (record t { marks = u.marks }) (record w { trail = v.trail; watches = v.watches })
         unfolding accept
         next_state =
-            accepted_in f p k t u v (judge_next (limits (lengths_of t)) f s (addition c) (kinds sh o true h answer.1)) (
-              subst (λ x. Shown q u v f (state s.mapped s.hinted (s.standing ++ (c ∷ [])) s.expansions (s.additions + 1) s.deletions x))
+            accepted_in f p k t _ _ (judge_next (limits (lengths_of t)) f s (addition c) (kinds sh o true h answer.1)) (
+              subst (λ x. Shown q (record t { marks = u.marks }) (record w { trail = v.trail; watches = v.watches }) f
+                  (state s.mapped s.hinted (s.standing ++ (c ∷ [])) s.expansions (s.additions + 1) s.deletions x))
                   (sym (clause_needs_lem sh additions_add c o.count o.most))
-                  (stood_shown sh o counts stood.next stood.stood stood.held s.expansions (s.additions + 1) s.deletions
+                  (stood_shown sh o counts stood.next stood.stood stood.held v.watches s.expansions (s.additions + 1) s.deletions
                   (ap (λ (x : Counts). x.expansions) g ∙ sh.expansions) one (ap (λ (x : Counts). x.deletions) g ∙ sh.deletions)
-                  (λ z. omega (arith, z, one))),
-              subst (λ x. KeptAll x t u) (sym (clause_needs_lem sh additions_add c o.count o.most)) (stood_kept sh o counts stood.next stood.stood stood.held),
+                  (λ a. omega (arith, a, one))),
+              subst (λ x. KeptAll x t (record t { marks = u.marks })) (sym (clause_needs_lem sh additions_add c o.count o.most))
+                  (stood_kept sh o counts stood.next stood.stood stood.held),
               stood_weight sh o counts stood.next stood.stood stood.held i
                   (omega (arith, one, sh.additions, ap (λ (x : Counts). x.expansions) g, ap (λ (x : Counts). x.deletions) g)),
             )
 
-      pub add_next : Judges addition p n m t w (Next q) u v
-      add_next = record { steps = next_state }
+      pub add_next : Judges addition p n m t w (Ok q) u v
+      add_next = judged_as rest record { steps = next_state }

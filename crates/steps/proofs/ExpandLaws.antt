@@ -7,7 +7,6 @@ use Prim.Native.Nat.{ℕ, ◌+◌, ◌-◌, ◌/◌, ◌<◌, ◌≤◌}
 use native.Mathlib.Omega.{arith}
 use lib.Dec.{eqb, leb, ltb}
 use lib.ListN.{length, get_or, length-map}
-use lib.IntN.{ℤ}
 use borrow.Author.Tests.{leb-true, ltb-true, ne_eqb}
 use Rattle.lines.specs.Lists.{all, any}
 use Rattle.cells.specs.Cells.{list_at, code_at}
@@ -23,7 +22,7 @@ use Rattle.rules.specs.Expansion.{is_mapped, expands}
 use Rattle.rules.specs.Step.{◌unless◌, ◌then◌}
 use Rattle.rules.specs.CertificateLines.{State, state, needing, hint_there, candidates, kind_rules, accept}
 use Rattle.rules.proofs.Kit.{and_l, and_r}
-use Rattle.tables.specs.Tables.{Tables, tables, lengths_of, KeptAll}
+use Rattle.tables.specs.Tables.{Tables, lengths_of, KeptAll}
 use Rattle.tables.proofs.Frames.{all_self}
 use Rattle.unmapped.specs.Copies.{all_mapped}
 use Rattle.unmapped.proofs.CopyLaws.{mapped_all}
@@ -31,75 +30,32 @@ use Rattle.mapping.proofs.LineLaws.{shown_copy}
 use Rattle.copies.specs.Copies.{stands_of, annotation_at, annotation_of}
 use Rattle.expansion.specs.Codes.{expands_named, expands_any}
 use Rattle.expansion.proofs.ClauseLaws.{CopiesTold, named_tested, any_tested}
-use Rattle.clauses.specs.declared.Cursor.{Cursor}
-use Rattle.clauses.specs.Standing.{standing, literals_from, pending_from, pending, written_at, proof_need}
-use Rattle.clauses.proofs.CursorLaws.{written_there}
+use Rattle.clauses.specs.Standing.{pending, written_at, proof_need}
+use Rattle.clauses.proofs.LiteralLaws.{written_there}
 use Rattle.reading.specs.declared.Counts.{Counts}
 use Rattle.progress.specs.declared.Progress.{Progress}
-use Rattle.progress.specs.declared.Step.TheVariants.{Next, Refuse}
-use Rattle.progress.specs.Order.{hint_missing}
-use Rattle.progress.specs.Shown.{Work, work, HintsShown, Shown, Light, Stepped}
-use Rattle.steps.specs.Judges.{kind_judge, Pending, Judges}
+use Rattle.std.specs.Prelude.{Result, Ok, Err}
+use Rattle.std.specs.Option.{is_some}
+use Rattle.rules.specs.Rule.{number, broken}
+use Rattle.rules.specs.declared.Rule.{Rule}
+use Rattle.rules.proofs.RuleLaws.{number_not_zero}
+use Rattle.progress.specs.declared.Work.{Work}
+use Rattle.progress.specs.Shown.{HintsShown, Shown, Light, Stepped}
+use Rattle.steps.specs.Judges.{kind_judge, Pending, Judges, Rest}
 use Rattle.steps.specs.Stands.{one_expansion, Standable, Stands}
 use Rattle.steps.specs.Expands.{hint_at, fits_at, rule_broken}
-use Rattle.steps.proofs.JudgeLaws.{judge_kind, judge_next, refused_in, accepted_in}
-use Rattle.progress.proofs.OrderLaws.{yes, no, hint_missing_lem}
+use Rattle.steps.proofs.JudgeLaws.{judge_kind, judge_next, refused_in, accepted_in, judged_as}
+use Rattle.progress.proofs.OrderLaws.{hint_missing_lem}
 use Rattle.steps.proofs.StandLaws.{expansions_add, clause_needs_lem, more_is, small_then, stood_kept, stood_shown, stood_weight}
 use Rattle.progress.proofs.HintLaws.{hint_read}
 
--- WHAT THE CODE TESTS
+-- the test of one clause, and of any
 module _ (p : Progress) (t : Tables) (starts : List ℕ) where
   abbrev named : ℕ → Bool
   named k = expands_named t.prefix t.values t.map t.proof (written_at p.store) t.matrix starts k
 
   abbrev any_one : ℕ → Bool
   any_one k = expands_any t.prefix t.values t.map t.proof (written_at p.store) t.matrix starts k
-
-  pub fits_hinted : p.hinted.given ≡ true → {l k : ℕ} {r : Bool} → l ≡ written_at p.store → k ≡ hint_at t.proof p.counts.expansions
-      → r ≡ expands_named t.prefix t.values t.map t.proof l t.matrix starts k → r ≡ fits_at p t starts
-  unfolding fits_at
-  fits_hinted h {l} {k} i j e =
-      yes p.hinted.given (named (hint_at t.proof p.counts.expansions)) (any_one p.formula.c) h
-      (e ∙ ap₂ (λ l k. expands_named t.prefix t.values t.map t.proof l t.matrix starts k) i j)
-
-  pub fits_free : p.hinted.given ≡ false → {l k : ℕ} {r : Bool} → l ≡ written_at p.store → k ≡ p.formula.c
-      → r ≡ expands_any t.prefix t.values t.map t.proof l t.matrix starts k → r ≡ fits_at p t starts
-  unfolding fits_at
-  fits_free h i j e =
-      no p.hinted.given (named (hint_at t.proof p.counts.expansions)) (any_one p.formula.c) h
-      (e ∙ ap₂ (λ l k. expands_any t.prefix t.values t.map t.proof l t.matrix starts k) i j)
-
-module _ (p : Progress) (t : Tables) (w : Work) {start : Cursor} (y : start ≡ pending_from p.store) {a : Bool}
-    (read : a ≡ all_mapped w.noted (literals_from t.proof start)) where
-  e : a ≡ all_mapped w.noted (pending t.proof p.store)
-  e = read ∙ ap (λ x. all_mapped w.noted (literals_from t.proof x)) y
-
-  abbrev copies : Bool
-  copies = all_mapped w.noted (pending t.proof p.store)
-
-  abbrev third : ℕ
-  third = cond (fits_at p t w.starts) 0 11
-
-  abbrev second : ℕ
-  second = cond (hint_missing p) 10 third
-
-  pub rule_9 : a ≡ false → 9 ≡ rule_broken p t w
-  unfolding rule_broken
-  rule_9 h = no copies second 9 (sym e ∙ h) refl
-
-  module _ (h : a ≡ true) {m : Bool} (f : m ≡ hint_missing p) where
-    pub rule_10 : m ≡ true → 10 ≡ rule_broken p t w
-    unfolding rule_broken
-    rule_10 i = yes copies second 9 (sym e ∙ h) (yes (hint_missing p) 10 third (sym f ∙ i) refl)
-
-    module _ (i : m ≡ false) {b : Bool} (g : b ≡ fits_at p t w.starts) where
-      pub rule_11 : b ≡ false → 11 ≡ rule_broken p t w
-      unfolding rule_broken
-      rule_11 j = yes copies second 9 (sym e ∙ h) (no (hint_missing p) 10 third (sym f ∙ i) (no (fits_at p t w.starts) 0 11 (sym g ∙ j) refl))
-
-      pub rule_none : b ≡ true → 0 ≡ rule_broken p t w
-      unfolding rule_broken
-      rule_none j = yes copies second 9 (sym e ∙ h) (no (hint_missing p) 10 third (sym f ∙ i) (yes (fits_at p t w.starts) 0 11 (sym g ∙ j) refl))
 
 -- THE RULES FROM 9 ON, as a number that is 0 where none is broken
 abbrev first_rule : Bool → Bool → Bool → ℕ
@@ -137,7 +93,7 @@ module _ {p : Progress} {t : Tables} {w : Work} {f : Formula} {s : State} (sh : 
       → fits_at p t w.starts ≡ any (expands f s.mapped c) (maybe q f.matrix (λ ns. get_or f.matrix (get_or ns s.expansions 0 - 1) [] ∷ []))
   unfolding fits_at hint_at
   fits_same a none g l b =
-      ap (λ h. cond h (named p t w.starts (hint_at t.proof p.counts.expansions)) (any_one p t w.starts p.formula.c)) g
+      ap (λ h. cond (is_some h) (named p t w.starts (hint_at t.proof p.counts.expansions)) (any_one p t w.starts p.formula.c)) g
       ∙ any_tested sh.formula sh.indexed sh.proper t.values t.map told t.proof (written_at p.store) c there a
   fits_same a (some ns) g l b =
       let i : s.expansions < length ns = ltb-true s.expansions (length ns) b in
@@ -145,7 +101,7 @@ module _ {p : Progress} {t : Tables} {w : Work} {f : Formula} {s : State} (sh : 
       let x = all_at (λ x. leb 1 x && leb x p.formula.c) 0 ns s.expansions l i in
       let least : 1 ≤ k = leb-true 1 k (and_l (leb 1 k) (leb k p.formula.c) x) in
       let most : k ≤ p.formula.c = leb-true k p.formula.c (and_r (leb 1 k) (leb k p.formula.c) x) in
-      ap (λ h. cond h (named p t w.starts (hint_at t.proof p.counts.expansions)) (any_one p t w.starts p.formula.c)) g.0
+      ap (λ h. cond (is_some h) (named p t w.starts (hint_at t.proof p.counts.expansions)) (any_one p t w.starts p.formula.c)) g.0
       ∙ ap (named p t w.starts) (ap (λ e. code_at t.proof e / 2) sh.expansions ∙ hint_read p.hinted t.proof (proof_need p.store) ns g s.expansions i)
       ∙ named_tested sh.formula sh.indexed sh.proper t.values t.map told t.proof (written_at p.store) c there a k least
       (omega (arith, most, sh.formula.whole, sh.formula.count))
@@ -172,25 +128,20 @@ module _ {p : Progress} {t : Tables} {w : Work} {f : Formula} {s : State} (sh : 
   unfolding kind_rules
   kinds q = first_broken all_copies (hint_there s) fitting ∙ ap refusal (sym (q ∙ number_same))
 
-module _ (p : Progress) (n m : ℕ) (t : Tables) (w : Work) {k : ℕ} (q : k ≡ rule_broken p t w) where
-  pub expand_refused : (k ≡ 0 → ⊥) → (v : Work) → Judges expansion p n m t w (Refuse k) t v
-  expand_refused z v = record {
+module _ (p : Progress) (n m : ℕ) (t : Tables) (w : Work) {a : Result (Unit {0}) Rule} (q : broken a ≡ rule_broken p t w) where
+  pub expand_refused : {k : Rule} → a ≡ Err k → (v : Work) → Judges expansion p n m t w (Err k) t v
+  expand_refused {k} z v = record {
     steps = λ c j f s o sh l i.
-        refused_in f p j t t v
-        (judge_kind (limits (lengths_of t)) f s (expansion c) (kinds sh o q ∙ ap (λ b. cond b none (some k)) (ne_eqb k 0 z))) (all_self _ t);
+        refused_in f p j t t v k
+        (judge_kind (limits (lengths_of t)) f s (expansion c)
+        (kinds sh o (sym (ap broken z) ∙ q) ∙ ap (λ b. cond b none (some (number k))) (ne_eqb (number k) 0 (number_not_zero k)))) (all_self _ t);
   }
 
   -- it stands
-  module _ (z : k ≡ 0) {counts : Counts} (g : counts ≡ one_expansion p.counts) {marks : List ℤ} {falses trail : List ℕ} {r : Progress}
-      (stands : Standable p p.units n t.proof t.marks w.falses w.trail → Stands p counts n m t.proof t.marks r marks falses trail) where
-    abbrev u : Tables
-    u = tables t.prefix t.matrix t.map t.proof marks t.values
-
-    abbrev v : Work
-    v = work w.starts w.noted falses trail
-
+  module _ {x : Unit {0}} (z : a ≡ Ok x) {counts : Counts} (g : counts ≡ one_expansion p.counts) {u : Tables} {v : Work} {r : Progress} (rest : Rest t w u v)
+      (stands : Standable p n t w → Stands p counts n m t r u v) where
     module _ (c : Lits) (j : ℕ) (f : Formula) (s : State) (o : Pending p t n m c) (sh : Shown p t w f s) (l : Light p j) (i : n < j) where
-      stood : Stands p counts n m t.proof t.marks r marks falses trail
+      stood : Stands p counts n m t r u v
       stood = stands record {
         filled = sh.filled;
         count = o.count ∙ sym (length-map c code_of) ∙ ap length (sym o.stored);
@@ -202,18 +153,21 @@ module _ (p : Progress) (n m : ℕ) (t : Tables) (w : Work) {k : ℕ} (q : k ≡
       one : counts.expansions ≡ s.expansions + 1
       one = ap (λ (x : Counts). x.expansions) g ∙ more_is (omega (arith, l)) ∙ ap (λ x. x + 1) sh.expansions
 
-      next_state : Stepped f p j t (kind_judge f s (expansion c)) (Next r) u v
+      next_state : Stepped f p j t (kind_judge f s (expansion c)) (Ok r) (record t { marks = u.marks }) (record w { trail = v.trail; watches = v.watches })
       unfolding accept
       next_state =
-          accepted_in f p j t u v (judge_next (limits (lengths_of t)) f s (expansion c) (kinds sh o q ∙ ap refusal z)) (
-            subst (λ x. Shown r u v f (state s.mapped s.hinted (s.standing ++ (c ∷ [])) (s.expansions + 1) s.additions s.deletions x))
+          accepted_in f p j t _ _ (judge_next (limits (lengths_of t)) f s (expansion c) (kinds sh o q ∙ ap (λ a. refusal (broken a)) z)) (
+            subst (λ x. Shown r (record t { marks = u.marks }) (record w { trail = v.trail; watches = v.watches }) f
+                (state s.mapped s.hinted (s.standing ++ (c ∷ [])) (s.expansions + 1) s.additions s.deletions x))
                 (sym (clause_needs_lem sh expansions_add c o.count o.most))
-                (stood_shown sh o counts stood.next stood.stood stood.held (s.expansions + 1) s.additions s.deletions
+                (stood_shown sh o counts stood.next stood.stood stood.held v.watches (s.expansions + 1) s.additions s.deletions
                 one (ap (λ (x : Counts). x.additions) g ∙ sh.additions) (ap (λ (x : Counts). x.deletions) g ∙ sh.deletions)
                 (λ y. omega (arith, y, one))),
-            subst (λ x. KeptAll x t u) (sym (clause_needs_lem sh expansions_add c o.count o.most)) (stood_kept sh o counts stood.next stood.stood stood.held),
-            stood_weight sh o counts stood.next stood.stood stood.held i (omega (arith, one, sh.expansions, ap (λ (x : Counts). x.additions) g, ap (λ (x : Counts). x.deletions) g)),
+            subst (λ x. KeptAll x t (record t { marks = u.marks })) (sym (clause_needs_lem sh expansions_add c o.count o.most))
+                (stood_kept sh o counts stood.next stood.stood stood.held),
+            stood_weight sh o counts stood.next stood.stood stood.held i
+                (omega (arith, one, sh.expansions, ap (λ (x : Counts). x.additions) g, ap (λ (x : Counts). x.deletions) g)),
           )
 
-    pub expand_next : Judges expansion p n m t w (Next r) u v
-    expand_next = record { steps = next_state }
+    pub expand_next : Judges expansion p n m t w (Ok r) u v
+    expand_next = judged_as rest record { steps = next_state }

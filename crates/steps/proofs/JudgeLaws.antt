@@ -4,16 +4,20 @@ use mathlib.Core.Bool.{true, false}
 use mathlib.Core.Option.{none, some}
 use Prim.Native.Nat.{ℕ}
 use Rattle.rules.specs.Formula.{Formula}
+use Rattle.rules.specs.Literals.{Lits}
 use Rattle.rules.specs.Forms.{CertificateLine}
 use Rattle.rules.specs.Limits.{Limits, has_room}
 use Rattle.rules.specs.Step.{next, refuse, ◌unless◌, ◌then◌, refuse_in}
 use Rattle.rules.specs.Step as rules
+use Rattle.rules.specs.Rule.{number}
+use Rattle.rules.specs.declared.Rule.{Rule}
 use Rattle.rules.specs.CertificateLines.{State, needing, in_sequence, in_range, kind_rules, accept, judge}
 use Rattle.tables.specs.Tables.{Tables, KeptAll}
 use Rattle.progress.specs.declared.Progress.{Progress}
-use Rattle.progress.specs.declared.Step.TheVariants.{Next, Refuse}
-use Rattle.progress.specs.Shown.{Work, Stepped}
-use Rattle.steps.specs.Judges.{kind_judge}
+use Rattle.std.specs.Prelude.{Result, Ok, Err}
+use Rattle.progress.specs.declared.Work.{Work}
+use Rattle.progress.specs.Shown.{Stepped}
+use Rattle.steps.specs.Judges.{kind_judge, Judges, Rest}
 
 -- THE JUDGE, by the first rule that is broken
 module _ (L : Limits) (f : Formula) (s : State) (line : CertificateLine) where
@@ -55,8 +59,15 @@ module _ (L : Limits) (f : Formula) (s : State) (line : CertificateLine) where
 
 -- A STEP of the rules and of the code
 module _ (f : Formula) (p : Progress) (n : ℕ) (t u : Tables) (w : Work) where
-  pub refused_in : {x : rules.Step State} {k : ℕ} {s : State} → x ≡ refuse k s → KeptAll s.needs t u → Stepped f p n t x (Refuse k) u w
-  refused_in {k} e h = subst (λ y. Stepped f p n t y (Refuse k) u w) (sym e) (refl, h)
+  pub refused_in : {x : rules.Step State} (k : Rule) {s : State} → x ≡ refuse (number k) s → KeptAll s.needs t u → Stepped f p n t x (Err k) u w
+  refused_in k e h = subst (λ y. Stepped f p n t y (Err k) u w) (sym e) (refl, h)
 
-  pub accepted_in : {x : rules.Step State} {s : State} {q : Progress} → x ≡ next s → Stepped f p n t (next s) (Next q) u w → Stepped f p n t x (Next q) u w
-  accepted_in {q} e h = subst (λ y. Stepped f p n t y (Next q) u w) (sym e) h
+  pub accepted_in : {x : rules.Step State} {s : State} {q : Progress} → x ≡ next s → Stepped f p n t (next s) (Ok q) u w → Stepped f p n t x (Ok q) u w
+  accepted_in {q} e h = subst (λ y. Stepped f p n t y (Ok q) u w) (sym e) h
+
+-- all but the marks, the trail and the watches stays
+pub judged_as : {kind : Lits → CertificateLine} {p : Progress} {n m : ℕ} {t u : Tables} {w v : Work} {r : Result Progress Rule} → Rest t w u v
+    → Judges kind p n m t w r (record t { marks = u.marks }) (record w { trail = v.trail; watches = v.watches }) → Judges kind p n m t w r u v
+judged_as {kind} {p} {n} {m} {t} {u} {w} {v} {r} e j =
+    subst (λ v. Judges kind p n m t w r u v) (sym e.1)
+    (subst (λ u. Judges kind p n m t w r u (record w { trail = v.trail; watches = v.watches })) (sym e.0) j)

@@ -1,7 +1,7 @@
 -- Laws of a pending clause that stands from now on. Assumes nothing.
 use mathlib.Core.Path.{◌≡◌, refl, ap, ap₂, sym, ◌∙◌, subst}
 use mathlib.Core.Bool.{true}
-use mathlib.Core.List.{List, [], ◌∷◌, ◌++◌, map}
+use mathlib.Core.List.{List, [], ◌∷◌, ◌++◌}
 use mathlib.Core.Option.{Option, none, some}
 use Prim.Native.Nat.{ℕ, ◌+◌, ◌*◌, ◌%◌, ◌<◌, ◌≤◌, max}
 use native.Mathlib.Omega.{arith}
@@ -13,20 +13,22 @@ use Rattle.rules.specs.Formula.{Formula}
 use Rattle.rules.specs.Forms.{CertificateLine, expansion, addition}
 use Rattle.rules.specs.Needs.{places, fits, together, line_needs}
 use Rattle.rules.specs.CertificateLines.{State, state, needing}
-use Rattle.tables.specs.Tables.{Tables, tables, lengths_of, KeptAll}
+use Rattle.tables.specs.Tables.{Tables, lengths_of, KeptAll}
 use Rattle.tables.proofs.Frames.{all_self}
 use Rattle.tables.proofs.Rooms.{fits_room, room_fits, places_same}
 use Rattle.clauses.specs.Standing.{standing, places_of, literals, proof_need, marks_need, grown, Stood, StandsNow}
 use Rattle.clauses.specs.declared.Store.{Store}
 use Rattle.clauses.proofs.StandingLaws.{literals_more}
 use Rattle.clauses.proofs.StoreLaws.{proof_grown, marks_grown, place_new}
+use Rattle.propagation.specs.declared.Watches.{Watches}
 use Rattle.propagation.proofs.HeldLaws.{held_stood}
-use Rattle.propagation.specs.declared.Units.{Units}
-use Rattle.propagation.specs.Answers.{Held}
+use Rattle.trail.specs.declared.Trail.{Trail}
+use Rattle.propagation.specs.Answers.{HeldIn}
 use Rattle.reading.specs.declared.Counts.{Counts}
-use Rattle.progress.specs.declared.Hinted.{Hinted}
+use Rattle.std.specs.Prelude as prelude
 use Rattle.progress.specs.declared.Progress.{Progress}
-use Rattle.progress.specs.Shown.{Work, work, HintsShown, needs_of, Shown, weight, Light}
+use Rattle.progress.specs.declared.Work.{Work}
+use Rattle.progress.specs.Shown.{HintsShown, needs_of, Shown, weight, Light}
 use Rattle.steps.specs.Judges.{Pending}
 use Rattle.steps.specs.Stands.{needs_with, stood_in, Standable, Stands}
 
@@ -68,9 +70,9 @@ module _ {p : Progress} {t : Tables} {w : Work} {f : Formula} {s : State} (sh : 
         }
 
 -- hints stay where more of the proof table is in use
-pub hints_higher : (h : Hinted) (proof : List ℤ) (used more : ℕ) (o : Option (List ℕ)) → used ≤ more → HintsShown h proof used o → HintsShown h proof more o
+pub hints_higher : (h : prelude.Option ℕ) (proof : List ℤ) (used more : ℕ) (o : Option (List ℕ)) → used ≤ more → HintsShown h proof used o → HintsShown h proof more o
 hints_higher h proof used more none l e = e
-hints_higher h proof used more (some ns) l e = (e.0, e.1, let k = e.2 in omega arith, e.3)
+hints_higher h proof used more (some ns) l e = (e.0, let k = e.1 in omega arith, e.2)
 
 -- one line more, where counts are small
 pub more_is : {n : ℕ} → n < 1073741824 → n % 1073741824 + 1 ≡ n + 1
@@ -84,14 +86,11 @@ module _ {p : Progress} {t : Tables} {w : Work} {f : Formula} {s : State} (sh : 
   higher : proof_need p.store ≤ proof_need (grown p.store n)
   higher = omega (arith, proof_grown p.store n)
 
-  module _ (counts : Counts) {marks : List ℤ} {falses trail : List ℕ} {q : Progress} (next : q ≡ stood_in p counts n m q.units)
+  module _ (counts : Counts) {marks : List ℤ} {trail : Trail} {q : Progress} (next : q ≡ stood_in p counts n m q.followed)
       (stood : Stood t.proof t.marks marks p.store n)
-      (held : Held (standing t.proof marks (places_of (grown p.store n))) falses trail q.units.n) where
+      (held : HeldIn (standing t.proof marks (places_of (grown p.store n))) trail) where
     abbrev u : Tables
-    u = tables t.prefix t.matrix t.map t.proof marks t.values
-
-    abbrev v : Work
-    v = work w.starts w.noted falses trail
+    u = record t { marks = marks }
 
     pub stood_kept : KeptAll (needs_with p n m) t u
     stood_kept =
@@ -103,10 +102,10 @@ module _ {p : Progress} {t : Tables} {w : Work} {f : Formula} {s : State} (sh : 
         ap (λ i. fits (places (length t.prefix) (length t.matrix) (length t.map) (length t.proof) i (length t.values)) (needs_with p n m))
         stood.kept.long ∙ clause_room sh n m o.proof o.marks o.values
 
-    pub stood_shown : (e a d : ℕ) → counts.expansions ≡ e → counts.additions ≡ a → counts.deletions ≡ d → (counts.expansions + counts.additions ≡ 0 → ⊥)
-        → Shown q u v f (state s.mapped s.hinted (s.standing ++ (c ∷ [])) e a d (needs_with p n m))
-    stood_shown e a d i j k z =
-        subst (λ r. Shown r u v f (state s.mapped s.hinted (s.standing ++ (c ∷ [])) e a d (needs_with p n m))) (sym next) record {
+    pub stood_shown : (watches : Watches) (e a d : ℕ) → counts.expansions ≡ e → counts.additions ≡ a → counts.deletions ≡ d → (counts.expansions + counts.additions ≡ 0 → ⊥)
+        → Shown q u (record w { trail = trail; watches = watches }) f (state s.mapped s.hinted (s.standing ++ (c ∷ [])) e a d (needs_with p n m))
+    stood_shown watches e a d i j k z =
+        subst (λ r. Shown r u (record w { trail = trail; watches = watches }) f (state s.mapped s.hinted (s.standing ++ (c ∷ [])) e a d (needs_with p n m))) (sym next) record {
           formula = sh.formula;
           indexed = sh.indexed;
           mapping = sh.mapping;
@@ -130,7 +129,7 @@ module _ {p : Progress} {t : Tables} {w : Work} {f : Formula} {s : State} (sh : 
     -- a line of k bytes, more than it has literals
     low : {k : ℕ} → n < k
         → counts.expansions + counts.additions + counts.deletions ≤ p.counts.expansions + p.counts.additions + p.counts.deletions + 1
-        → weight (stood_in p counts n m q.units) ≤ weight p + 3 * k
+        → weight (stood_in p counts n m q.followed) ≤ weight p + 3 * k
     low l e = omega (arith, l, e, proof_grown p.store n, marks_grown p.store n)
 
     pub stood_weight : {k : ℕ} → n < k
@@ -139,30 +138,35 @@ module _ {p : Progress} {t : Tables} {w : Work} {f : Formula} {s : State} (sh : 
     stood_weight {k} l e = subst (λ r. weight r ≤ weight p + 3 * k) (sym next) (low l e)
 
 -- WHAT THE CODE DID
-module _ (p : Progress) (counts : Counts) (units : Units) (n m : ℕ) (proof marks : List ℤ) (falses trail : List ℕ) where
-  abbrev standing_as : ℕ → Store → Units → Progress
-  standing_as largest store r = record {
+module _ (p : Progress) (counts : Counts) (n m : ℕ) (t : Tables) (w : Work) where
+  abbrev standing_as : ℕ → Store → ℕ → Progress
+  standing_as largest store followed = record {
     formula = p.formula;
     mapped = record { used = p.mapped.used; largest = largest };
     hinted = p.hinted;
     store = store;
-    units = r;
+    followed = followed;
     counts = counts;
   }
 
-  pub stands_then : {largest : ℕ} → largest ≡ max p.mapped.largest m → {place : ℕ} → place ≡ places_of p.store → (store : Store) (marks' : List ℤ)
-      → StandsNow marks marks' p.store n store → {count : ℕ} → count ≡ places_of store → (r : Units) (falses' trail' : List ℕ)
-      → (Held (standing proof marks' count) falses trail units.n → place < count → Held (standing proof marks' count) falses' trail' r.n)
-      → Standable p units n proof marks falses trail → Stands p counts n m proof marks (standing_as largest store r) marks' falses' trail'
-  stands_then {largest} a {place} b store marks' stand {count} e r falses' trail' attach o =
+  pub stands_then : {largest : ℕ} → largest ≡ max p.mapped.largest m → {place : ℕ} → place ≡ places_of p.store → (store : Store) (marks : List ℤ)
+      → StandsNow t.marks marks p.store n store → {a b : List ℤ} {count : ℕ} → a ≡ t.proof → b ≡ marks → count ≡ places_of store
+      → (followed : ℕ) (trail : Trail) (watches : Watches)
+      → (HeldIn (standing a b count) w.trail → place < count
+      → HeldIn (standing a b count) trail)
+      → Standable p n t w
+      → Stands p counts n m t (standing_as largest store followed) (record t { marks = marks }) (record w { trail = trail; watches = watches })
+  stands_then {largest} e {place} g store marks stand {a} {b} {count} i j k followed trail watches attach o =
       let d = stand o.small o.room in
-      let st = d.1 proof o.filled o.count in
-      let q : count ≡ places_of (grown p.store n) = e ∙ ap places_of d.0 in
+      let st = d.1 t.proof o.filled o.count in
+      let q : count ≡ places_of (grown p.store n) = k ∙ ap places_of d.0 in
+      let z : standing a b count ≡ standing t.proof marks (places_of (grown p.store n))
+      = ap₂ (λ a b. standing a b count) i j ∙ ap (standing t.proof marks) q in
       record {
-        next = ap₂ (λ l s. standing_as l s r) a d.0;
+        next = ap₂ (λ l s. standing_as l s followed) e d.0;
         stood = st;
         held =
-            subst (λ i. Held (standing proof marks' i) falses' trail' r.n) q
-            (attach (subst (λ i. Held (standing proof marks' i) falses trail units.n) (sym q) (held_stood st o.held))
-            (omega (arith, b, q, place_new p.store n)));
+            subst (λ S. HeldIn S trail) z
+            (attach (subst (λ S. HeldIn S w.trail) (sym z) (held_stood st o.held))
+            (omega (arith, g, q, place_new p.store n)));
       }

@@ -1,5 +1,6 @@
 -- The tests of an `e` line, over the tables and the working memory. Assumes nothing.
 use Rattle.std.specs.Prelude.{Bool, cond, List, ℕ, ◌/◌, ℤ}
+use Rattle.std.specs.Option.{is_some}
 use Rattle.cells.specs.Cells.{code_at}
 use Rattle.tables.specs.Tables.{Tables}
 use Rattle.unmapped.specs.Copies.{all_mapped}
@@ -7,7 +8,7 @@ use Rattle.expansion.specs.Codes.{expands_named, expands_any}
 use Rattle.clauses.specs.Standing.{pending, written_at}
 use Rattle.progress.specs.declared.Progress.{Progress}
 use Rattle.progress.specs.Order.{hint_missing}
-use Rattle.progress.specs.Shown.{Work}
+use Rattle.progress.specs.declared.Work.{Work}
 
 -- hint number e, counted from 0
 unfoldable pub hint_at : List ℤ → ℕ → ℕ
@@ -16,7 +17,7 @@ hint_at proof e = code_at proof e / 2
 -- the pending clause is an expansion of the clause that its hint names; without hints, of any clause
 unfoldable pub fits_at : Progress → Tables → List ℕ → Bool
 fits_at p t starts =
-    cond p.hinted.given
+    cond (is_some p.hinted)
     (expands_named t.prefix t.values t.map t.proof (written_at p.store) t.matrix starts (hint_at t.proof p.counts.expansions))
     (expands_any t.prefix t.values t.map t.proof (written_at p.store) t.matrix starts p.formula.c)
 

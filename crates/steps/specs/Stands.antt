@@ -1,12 +1,14 @@
 -- A pending clause that stands from now on. Assumes nothing.
-use Rattle.std.specs.Prelude.{◌≡◌, List, ℕ, ◌≤◌, ◌<◌, max, length, ℤ}
+use Rattle.std.specs.Prelude.{◌≡◌, ℕ, ◌≤◌, ◌<◌, max, length}
 use Rattle.rules.specs.Needs.{Places, places}
+use Rattle.tables.specs.Tables.{Tables}
 use Rattle.clauses.specs.Standing.{standing, places_of, pending, proof_need, marks_need, grown, Filled, Stood}
-use Rattle.propagation.specs.declared.Units.{Units}
-use Rattle.propagation.specs.Answers.{Held}
+use Rattle.propagation.specs.Answers.{HeldIn}
 use Rattle.reading.specs.declared.Counts.{Counts}
 use Rattle.progress.specs.declared.Progress.{Progress}
+use Rattle.progress.specs.declared.Work.{Work}
 use Rattle.progress.specs.Order.{more}
+use Rattle.progress.specs.Shown.{clauses_of}
 
 -- one line more
 abbrev pub one_expansion : Counts → Counts
@@ -25,13 +27,13 @@ needs_with p n m =
     (max p.mapped.largest m)
 
 -- the progress then
-abbrev pub stood_in : Progress → Counts → ℕ → ℕ → Units → Progress
-stood_in p counts n m units = record {
+abbrev pub stood_in : Progress → Counts → ℕ → ℕ → ℕ → Progress
+stood_in p counts n m followed = record {
   formula = p.formula;
   mapped = record { used = p.mapped.used; largest = max p.mapped.largest m };
   hinted = p.hinted;
   store = grown p.store n;
-  units = units;
+  followed = followed;
   counts = counts;
 }
 
@@ -42,20 +44,20 @@ deleted_in p = record {
   mapped = p.mapped;
   hinted = p.hinted;
   store = p.store;
-  units = record { n = 0; q = 0 };
+  followed = 0;
   counts = one_deletion p.counts;
 }
 
 -- THE PENDING CLAUSE, of n literals, may stand
-pub record Standable (p : Progress) (units : Units) (n : ℕ) (proof marks : List ℤ) (falses trail : List ℕ) : Type 0 where
-  pub filled : Filled proof marks p.store
-  pub count : n ≡ length (pending proof p.store)
+pub record Standable (p : Progress) (n : ℕ) (t : Tables) (w : Work) : Type 0 where
+  pub filled : Filled t.proof t.marks p.store
+  pub count : n ≡ length (pending t.proof p.store)
   pub small : proof_need (grown p.store n) < 1073741824
-  pub room : marks_need (grown p.store n) ≤ length marks
-  pub held : Held (standing proof marks (places_of p.store)) falses trail units.n
+  pub room : marks_need (grown p.store n) ≤ length t.marks
+  pub held : HeldIn (clauses_of p t) w.trail
 
 -- it stands
-pub record Stands (p : Progress) (counts : Counts) (n m : ℕ) (proof marks : List ℤ) (q : Progress) (marks' : List ℤ) (falses trail : List ℕ) : Type 0 where
-  pub next : q ≡ stood_in p counts n m q.units
-  pub stood : Stood proof marks marks' p.store n
-  pub held : Held (standing proof marks' (places_of (grown p.store n))) falses trail q.units.n
+pub record Stands (p : Progress) (counts : Counts) (n m : ℕ) (t : Tables) (q : Progress) (u : Tables) (v : Work) : Type 0 where
+  pub next : q ≡ stood_in p counts n m q.followed
+  pub stood : Stood t.proof t.marks u.marks p.store n
+  pub held : HeldIn (standing t.proof u.marks (places_of (grown p.store n))) v.trail

@@ -1,63 +1,75 @@
 // The judge of an addition; and a pending clause that stands from now on.
 ghost use Rattle.std.specs.Prelude.{◌≡◌};
 ghost use Rattle.rules.specs.Forms.{addition};
-ghost use Rattle.steps.specs.Judges.{Judges, among, beside};
+ghost use Rattle.tables.specs.Lent.{tables_of, SameLent};
+ghost use Rattle.steps.specs.Judges.{Judges, Rest};
 ghost use Rattle.steps.specs.Stands.{Standable, Stands, one_addition};
-ghost use Rattle.tables.specs.Tables.{Tables};
-ghost use Rattle.progress.specs.Shown.{Work};
 
-use cells::larger;
+use clauses::Standing;
 use mapping::Mapped;
-use progress::{Progress, Step, hint_left, one_more};
-use propagation::{Units, Watches};
+use progress::{Progress, Work, hint_left, one_more};
 use reading::Counts;
-use redundancy::Addition;
-use trail::{Falses, Trail};
+use rules::Rule;
+use tables::LentTables;
+
+// The clauses that stand at the places below count.
+fn standing_below<'a>(tables: &'a LentTables, count: usize) -> Standing<'a>
+    ensures proof { result.proof.now ≡ tables.now.proof.now }
+    ensures marks { result.marks.now ≡ tables.now.marks.now }
+    ensures count { result.count ≡ count }
+{
+    Standing {
+        proof: tables.proof,
+        marks: tables.marks,
+        count,
+    }
+}
 
 // The pending clause of n literals, with copies up to m, stands from now on and is watched.
 pub fn stand(
     p: Progress,
     counts: Counts,
-    units: Units,
+    followed: usize,
     n: usize,
     m: u32,
-    proof: &[i32],
-    marks: &mut [i32],
-    falses: &mut Falses,
-    trail: &mut Trail,
-    watches: &mut Watches,
+    tables: &mut LentTables,
+    work: &mut Work,
 ) -> Progress
-    ensures { Standable p units n proof.now marks.old falses.old trail.old
-        → Stands p counts n m proof.now marks.old result marks.new falses.new trail.new }
+    ensures answer { Standable p n (tables_of tables.old) work.old
+        → Stands p counts n m (tables_of tables.old) result (tables_of tables.new) work.new }
+    ensures rest { Rest (tables_of tables.old) work.old (tables_of tables.new) work.new }
+    ensures lent { SameLent tables.old tables.new }
 {
-    let formula = p.formula;
-    let hinted = p.hinted;
-    let before = p.store;
     let mapped = Mapped {
         used: p.mapped.used,
-        largest: larger(p.mapped.largest, m),
+        largest: p.mapped.largest.max(m),
     };
-    let place = clauses::places(before);
-    let store = clauses::stand(marks, before, n);
-    let count = clauses::places(store);
-    let held = propagation::attach(proof, marks, count, falses, trail, units, watches, place);
+    let place = clauses::places(p.store);
+    let store = clauses::stand(tables.marks, p.store, n);
+    let standing = standing_below(tables, clauses::places(store));
+    let followed = propagation::attach(
+        standing,
+        &mut work.trail,
+        followed,
+        &mut work.watches,
+        place,
+    );
     Progress {
-        formula,
         mapped,
-        hinted,
         store,
-        units: held,
+        followed,
         counts,
+        ..p
     }
 }
 
+// One addition more.
 fn with_addition(c: Counts) -> Counts
     ensures { result ≡ one_addition c }
 {
     Counts {
-        expansions: c.expansions,
         additions: one_more(c.additions),
-        deletions: c.deletions,
+        ..c
     }
 }
 
@@ -66,27 +78,29 @@ pub fn add(
     p: Progress,
     n: usize,
     m: u32,
-    proof: &[i32],
-    marks: &mut [i32],
-    falses: &mut Falses,
-    trail: &mut Trail,
-    watches: &mut Watches,
-) -> Step
-    ensures { (t : Tables) (w : Work) → Judges addition p n m
-        (among t proof.now marks.old) (beside w falses.old trail.old) result
-        (among t proof.now marks.new) (beside w falses.new trail.new) }
+    tables: &mut LentTables,
+    work: &mut Work,
+) -> Result<Progress, Rule>
+    ensures answer { Judges addition p n m (tables_of tables.old) work.old result (tables_of tables.new) work.new }
+    ensures rest { Rest (tables_of tables.old) work.old (tables_of tables.new) work.new }
+    ensures lent { SameLent tables.old tables.new }
 {
     if hint_left(p) {
-        return Step::Refuse(10);
+        return Err(Rule::HintCount);
     }
-    let counts = with_addition(p.counts);
-    let store = p.store;
-    let count = clauses::places(store);
-    let c = clauses::pending(store);
-    match redundancy::add(proof, marks, count, falses, trail, p.units, watches, c) {
-        Addition::Refused => Step::Refuse(12),
-        Addition::Accepted(units) => Step::Next(stand(
-            p, counts, units, n, m, proof, marks, falses, trail, watches,
-        )),
+    let standing = standing_below(tables, clauses::places(p.store));
+    let clause = clauses::pending(standing.proof, p.store);
+    match redundancy::add(
+        standing,
+        &mut work.trail,
+        p.followed,
+        &mut work.watches,
+        clause,
+    ) {
+        Some(followed) => {
+            let counts = with_addition(p.counts);
+            Ok(stand(p, counts, followed, n, m, tables, work))
+        }
+        None => Err(Rule::NotImplied),
     }
 }

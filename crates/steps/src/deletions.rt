@@ -1,58 +1,44 @@
 // The judge of a deletion.
 ghost use Rattle.std.specs.Prelude.{◌≡◌};
-ghost use Rattle.tables.specs.Tables.{Tables};
-ghost use Rattle.progress.specs.Shown.{Work};
-ghost use Rattle.steps.specs.Judges.{Deletes, among, beside};
+ghost use Rattle.tables.specs.Lent.{tables_of, SameLent};
+ghost use Rattle.steps.specs.Judges.{Deletes};
 ghost use Rattle.steps.specs.Stands.{deleted_in};
 
-use progress::{Progress, Step, hint_left, one_more};
-use propagation::Units;
+use progress::{Progress, Work, hint_left, one_more};
 use reading::Counts;
-use trail::{Falses, Trail};
+use rules::Rule;
+use tables::LentTables;
 
 // The progress after a deletion: nothing is known to follow from the standing clauses.
 fn with_deletion(p: Progress) -> Progress
     ensures { result ≡ deleted_in p }
 {
-    let formula = p.formula;
-    let mapped = p.mapped;
-    let hinted = p.hinted;
-    let store = p.store;
     let counts = Counts {
-        expansions: p.counts.expansions,
-        additions: p.counts.additions,
         deletions: one_more(p.counts.deletions),
+        ..p.counts
     };
     Progress {
-        formula,
-        mapped,
-        hinted,
-        store,
-        units: Units { n: 0, q: 0 },
+        followed: 0,
         counts,
+        ..p
     }
 }
 
-// Rules 10 and 13 of the deletion whose n distinct literals are on the trail, which was emptied before: the earliest standing clause of
+// Rules 10 and 13 of the deletion whose distinct literals are on the trail, which was emptied before: the earliest standing clause of
 // the same set stands no more.
-pub fn delete(
-    p: Progress,
-    n: usize,
-    proof: &[i32],
-    marks: &mut [i32],
-    falses: &mut Falses,
-    trail: &Trail,
-) -> Step
-    ensures { (t : Tables) (w : Work) → Deletes p n (among t proof.now marks.old) (beside w falses.old trail.now)
-        result (among t proof.now marks.new) (beside w falses.new trail.now) }
+pub fn delete(p: Progress, tables: &mut LentTables, work: &mut Work) -> Result<Progress, Rule>
+    ensures answer { Deletes p (tables_of tables.old) work.old result (tables_of tables.new) work.new }
+    ensures marks { tables_of tables.new ≡ record (tables_of tables.old) { marks = (tables_of tables.new).marks } }
+    ensures trail { work.new ≡ record work.old { trail = record work.new.trail { literals = work.old.trail.literals } } }
+    ensures lent { SameLent tables.old tables.new }
 {
     if hint_left(p) {
-        return Step::Refuse(10);
+        return Err(Rule::HintCount);
     }
-    let store = p.store;
-    let count = clauses::places(store);
-    if deletion::delete(proof, marks, count, falses, trail, n) {
-        return Step::Next(with_deletion(p));
+    let count = clauses::places(p.store);
+    let proof = &mut *tables.proof;
+    if deletion::delete(proof, tables.marks, count, &mut work.trail) {
+        return Ok(with_deletion(p));
     }
-    Step::Refuse(13)
+    Err(Rule::NothingToDelete)
 }

@@ -1,99 +1,76 @@
 // The judge of an `e` line.
 ghost use Rattle.std.specs.Prelude.{◌≡◌};
+ghost use Rattle.rules.specs.Rule.{broken};
 ghost use Rattle.rules.specs.Forms.{expansion};
-ghost use Rattle.tables.specs.Tables.{six};
-ghost use Rattle.progress.specs.Shown.{four};
-ghost use Rattle.steps.specs.Judges.{Judges};
+ghost use Rattle.tables.specs.Lent.{tables_of, SameLent};
+ghost use Rattle.steps.specs.Judges.{Judges, Rest};
 ghost use Rattle.steps.specs.Stands.{one_expansion};
 ghost use Rattle.steps.specs.Expands.{hint_at, fits_at, rule_broken};
 
 use crate::additions::stand;
-use cells::wide;
+use copies::View;
 use copies::marks::CODES;
-use mapped::Noted;
 use matrix::Starts;
-use progress::{Progress, Step, hint_missing, one_more};
-use propagation::Watches;
+use progress::{Progress, Work, hint_missing, one_more};
 use reading::Counts;
-use trail::{Falses, Trail};
+use rules::Rule;
+use tables::LentTables;
 
 // What hint number e says, counted from 0.
+#[tactic(auto, unfolding(crate::specs::Expands::hint_at))]
 fn hint_at(proof: &[i32], e: u32) -> usize
     ensures { result ≡ hint_at proof.now e }
 {
-    wide(cells::code(proof, wide(e)) / 2)
+    (cells::code(proof, e as usize) / 2) as usize
 }
 
 // Whether the pending clause, of `size` literals, is an expansion of the clause that its hint names; without hints, of any clause.
-fn fits(
-    p: Progress,
-    size: usize,
-    prefix: &[i32],
-    matrix: &[i32],
-    map: &[i32],
-    proof: &[i32],
-    marks: &[i32],
-    values: &[i32],
-    starts: &Starts,
-) -> bool
-    ensures { result ≡ fits_at p
-        (six prefix.now matrix.now map.now proof.now marks.now values.now) starts.now }
+#[tactic(auto, using(copies::proofs::MarkLaws::zeros_unmarked, copies::proofs::MarkLaws::zeros_long), unfolding(crate::specs::Expands::fits_at))]
+fn fits(p: Progress, size: usize, tables: &LentTables, starts: &Starts) -> bool
+    ensures { result ≡ fits_at p (tables_of tables.now) starts.now }
 {
     let mut seen = [0u8; CODES];
     let mut held = [0u16; CODES];
-    let store = p.store;
-    let l = clauses::written(store);
-    if p.hinted.given {
-        let n = hint_at(proof, p.counts.expansions);
-        return expansion::expands_named(
-            prefix, values, map, proof, l, size, matrix, starts, n, &mut seen, &mut held,
-        );
+    let view = View {
+        prefix: tables.prefix,
+        values: tables.values,
+        map: tables.map,
+        proof: tables.proof,
+        line: clauses::written(p.store),
+    };
+    let matrix = &*tables.matrix;
+    if p.hinted.is_some() {
+        let n = hint_at(tables.proof, p.counts.expansions);
+        return expansion::expands_named(view, size, matrix, starts, n, &mut seen, &mut held);
     }
-    let c = wide(p.formula.c);
-    expansion::expands_any(
-        prefix, values, map, proof, l, size, matrix, starts, c, &mut seen, &mut held,
-    )
+    let c = p.formula.c as usize;
+    expansion::expands_any(view, size, matrix, starts, c, &mut seen, &mut held)
 }
 
-// The first of the rules 9, 10 and 11 that the pending clause, of `size` literals, breaks; 0 if none.
-fn rule_broken(
-    p: Progress,
-    size: usize,
-    prefix: &[i32],
-    matrix: &[i32],
-    map: &[i32],
-    proof: &[i32],
-    marks: &[i32],
-    values: &[i32],
-    starts: &Starts,
-    noted: &Noted,
-    falses: &Falses,
-    trail: &Trail,
-) -> u32
-    ensures { result ≡ rule_broken p
-        (six prefix.now matrix.now map.now proof.now marks.now values.now)
-        (four starts.now noted.now falses.now trail.now) }
+// The first of the rules 9, 10 and 11 that the pending clause, of `size` literals, breaks.
+#[tactic(auto, unfolding(crate::specs::Expands::rule_broken))]
+fn rule_broken(p: Progress, size: usize, tables: &LentTables, work: &Work) -> Result<(), Rule>
+    ensures { broken result ≡ rule_broken p (tables_of tables.now) work.now }
 {
-    let store = p.store;
-    if unmapped::all_mapped(proof, clauses::pending(store), noted) {
-        if hint_missing(p) {
-            return 10;
-        }
-        if fits(p, size, prefix, matrix, map, proof, marks, values, starts) {
-            return 0;
-        }
-        return 11;
+    if !unmapped::all_mapped(clauses::pending(tables.proof, p.store), &work.noted) {
+        return Err(Rule::Unmapped);
     }
-    9
+    if hint_missing(p) {
+        return Err(Rule::HintCount);
+    }
+    if !fits(p, size, tables, &work.starts) {
+        return Err(Rule::NoExpansion);
+    }
+    Ok(())
 }
 
+// One expansion more.
 fn with_expansion(c: Counts) -> Counts
     ensures { result ≡ one_expansion c }
 {
     Counts {
         expansions: one_more(c.expansions),
-        additions: c.additions,
-        deletions: c.deletions,
+        ..c
     }
 }
 
@@ -102,31 +79,14 @@ pub fn expand(
     p: Progress,
     n: usize,
     m: u32,
-    prefix: &[i32],
-    matrix: &[i32],
-    map: &[i32],
-    proof: &[i32],
-    marks: &mut [i32],
-    values: &[i32],
-    starts: &Starts,
-    noted: &Noted,
-    falses: &mut Falses,
-    trail: &mut Trail,
-    watches: &mut Watches,
-) -> Step
-    ensures { Judges expansion p n m
-        (six prefix.now matrix.now map.now proof.now marks.old values.now)
-        (four starts.now noted.now falses.old trail.old) result
-        (six prefix.now matrix.now map.now proof.now marks.new values.now)
-        (four starts.now noted.now falses.new trail.new) }
+    tables: &mut LentTables,
+    work: &mut Work,
+) -> Result<Progress, Rule>
+    ensures answer { Judges expansion p n m (tables_of tables.old) work.old result (tables_of tables.new) work.new }
+    ensures rest { Rest (tables_of tables.old) work.old (tables_of tables.new) work.new }
+    ensures lent { SameLent tables.old tables.new }
 {
-    let k = rule_broken(
-        p, n, prefix, matrix, map, proof, marks, values, starts, noted, falses, trail,
-    );
-    if k != 0 {
-        return Step::Refuse(k);
-    }
+    rule_broken(p, n, tables, work)?;
     let counts = with_expansion(p.counts);
-    let units = p.units;
-    Step::Next(stand(p, counts, units, n, m, proof, marks, falses, trail, watches))
+    Ok(stand(p, counts, p.followed, n, m, tables, work))
 }

@@ -12,7 +12,8 @@ use borrow.Author.Tests.{eqb-true, eqb-false, eq-eqb, ne_eqb}
 use Rattle.rules.specs.Codes.{flip}
 use Rattle.rules.proofs.CodesLaw.{flip_twice}
 use Rattle.rules.proofs.Kit.{clear, either}
-use Rattle.trail.specs.Trail.{off, truth, zeros, Trailed, Ready, Assumed, Undone}
+use Rattle.trail.specs.declared.Trail.{Trail}
+use Rattle.trail.specs.Trail.{off, truth, zeros, Trailed, Ready, ReadyIn, Assumed, Undone}
 
 -- VALUES
 pub small_mod : (l : ℕ) → l < 65536 → l % 65536 ≡ l
@@ -171,9 +172,6 @@ off_unset f i l q = go (eqb l i) refl
     go true z = absurd (clear q (ap (off (set f i 0)) (eqb-true l i z) ∙ off_no (set f i 0) i (zero_there f i)))
     go false z = (eqb-false l i z, unfold off in (ap (λ (x : ℕ). not (eqb x 0)) (sym (get_or-set_other f i l 0 0 (eqb-false l i z))) ∙ q))
 
-pub undone_start : (f t : List ℕ) (n : ℕ) → Trailed f t n → Undone f t n f
-undone_start f t n r = record { trailed = r; fewer = λ l e. e }
-
 pub undone_step : (f₀ f t : List ℕ) (n i : ℕ) → 0 < n → i ≡ get_or t (n - 1) 0 → Undone f₀ t n f → Undone f₀ t (n - 1) (set f i 0)
 undone_step f₀ f t n i h e u = record {
   trailed = record {
@@ -188,12 +186,13 @@ undone_step f₀ f t n i h e u = record {
     lower : (k : ℕ) → k < n → (k ≡ n - 1 → ⊥) → k < n - 1
     lower k a b = omega arith
 
-pub undone_at : (f₀ f t : List ℕ) (n m : ℕ) → n ≡ m → Undone f₀ t n f → Undone f₀ t m f
-undone_at f₀ f t n m e u = subst (λ k. Undone f₀ t k f) e u
-
 pub ready_undone : (f t : List ℕ) (n base : ℕ) (f' : List ℕ) → Ready f t n → Undone f t base f' → Ready f' t base
 ready_undone f t n base f' r u =
     record { trailed = u.trailed; apart = λ l p q. r.apart l (u.fewer l p) (u.fewer (flip l) q) }
+
+-- a trail that was cut back is as ready as it was
+pub ready_back : {f t : List ℕ} {n base : ℕ} {b : Trail} → Ready f t n → Undone f t base b.falses × (b.literals ≡ t) × (b.length ≡ base) → ReadyIn b
+ready_back {f} {t} {n} {base} {b} r u = rw (u.1, u.2) (ready_undone f t n base b.falses r u.0)
 
 -- AN EMPTY TRAIL
 pub ready_empty : (f t : List ℕ) → Trailed f t 0 → Ready f t 0
@@ -216,3 +215,7 @@ ready_start t h = ready_empty (replicate 65536 0) t record {
   long = h;
   listed = λ l e. absurd (clear e (off_no (replicate 65536 0) l (nothing_there 65536 l)));
 }
+
+-- cut back to nothing
+pub ready_cut : {f t : List ℕ} {b : Trail} → Undone f t 0 b.falses × (b.literals ≡ t) × (b.length ≡ 0) → ReadyIn b
+ready_cut {f} {t} {b} u = rw (u.1, u.2) (ready_empty b.falses t u.0.trailed)

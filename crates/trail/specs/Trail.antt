@@ -1,6 +1,7 @@
 -- What the contracts of the trail say. A literal is its code; it is false where f has no 0 at its code. Assumes nothing.
 use Rattle.std.specs.Prelude.{◌≡◌, ◌⊎◌, Bool, true, false, cond, not, List, [], ◌∷◌, ℕ, ◌+◌, ◌≤◌, ◌<◌, eqb, length, get_or, set}
 use Rattle.rules.specs.Codes.{flip}
+use Rattle.trail.specs.declared.Trail.{Trail}
 
 -- VALUES
 unfoldable pub off : List ℕ → ℕ → Bool
@@ -39,17 +40,20 @@ pub record Undone (f t : List ℕ) (base : ℕ) (f' : List ℕ) : Type 0 where
   pub fewer : (l : ℕ) → off f' l ≡ true → off f l ≡ true
 
 -- AS CONTRACTS NAME THEM
-abbrev pub ShapeIn : List ℕ → ℕ → Type 0
-ShapeIn f n = Shape f n
+abbrev pub ShapeIn : Trail → Type 0
+ShapeIn t = Shape t.falses t.length
 
-abbrev pub TrailedIn : List ℕ → List ℕ → ℕ → Type 0
-TrailedIn f t n = Trailed f t n
+abbrev pub TrailedIn : Trail → Type 0
+TrailedIn t = Trailed t.falses t.literals t.length
 
-abbrev pub ReadyIn : List ℕ → List ℕ → ℕ → Type 0
-ReadyIn f t n = Ready f t n
+abbrev pub ReadyIn : Trail → Type 0
+ReadyIn t = Ready t.falses t.literals t.length
 
-abbrev pub AssumedIn : List ℕ → List ℕ → ℕ → ℕ → List ℕ → List ℕ → ℕ → Type 0
-AssumedIn f t n l f' t' r = Assumed f t n l f' t' r
+abbrev pub literal_in : Trail → ℕ → ℕ
+literal_in t k = get_or t.literals k 0
 
-abbrev pub UndoneIn : List ℕ → List ℕ → ℕ → List ℕ → Type 0
-UndoneIn f t base f' = Undone f t base f'
+abbrev pub AssumedIn : Trail → ℕ → Trail → Type 0
+AssumedIn t l t' = Assumed t.falses t.literals t.length l t'.falses t'.literals t'.length
+
+abbrev pub UndoneIn : Trail → ℕ → Trail → Type 0
+UndoneIn t base t' = Undone t.falses t.literals base t'.falses × (t'.literals ≡ t.literals) × (t'.length ≡ base)

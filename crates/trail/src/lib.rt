@@ -1,30 +1,23 @@
-// Which literals are false, and since when. A literal is its code. falses[l] is not 0: the literal l is false; trail[0..n): the false
+// Which literals are false, and since when. A literal is its code.
 #![tactic(auto)]
-// literals, in the order in which they became false.
+
 ghost use Rattle.std.specs.Prelude.{◌≡◌, ◌≤◌, ◌<◌};
 ghost use Rattle.rules.specs.Codes.{flip as negation};
-ghost use Rattle.trail.specs.Trail.{off, truth, ShapeIn, TrailedIn, AssumedIn, UndoneIn};
+ghost use Rattle.trail.specs.Trail.{off, truth, ShapeIn, TrailedIn, literal_in, AssumedIn, UndoneIn};
 
-use cells::wide;
-
-pub type Falses = [u8; 65536];
-
-pub type Trail = [u16; 65536];
-
-pub fn wide16(x: u16) -> u32
-    ensures { (result ≡ x) × (result < 65536) }
-{
-    x as u32
+// falses[l] is not 0: the literal l is false; literals[0..length): the false literals, in the order in which they became false.
+#[derive(Drop)]
+pub struct Trail {
+    pub falses: [u8; 65536],
+    pub literals: [u16; 65536],
+    pub length: usize,
 }
 
 // A length of the trail.
 fn within(n: usize) -> usize
     ensures { (result ≤ 65536) × (n ≤ 65536 → result ≡ n) }
 {
-    if 65536 < n {
-        return 65536;
-    }
-    n
+    n.min(65536)
 }
 
 // The code of the negation.
@@ -34,52 +27,60 @@ pub fn flip(l: u32) -> u32
     if l % 2 == 0 { l + 1 } else { l - 1 }
 }
 
-pub fn is_off(falses: &Falses, l: u32) -> bool
-    ensures { (l < 65536) → result ≡ off falses.now l }
-{
-    falses[wide(l % 65536)] != 0
-}
-
-// A literal is true where its negation is false.
-pub fn is_true(falses: &Falses, l: u32) -> bool
-    ensures { (l < 65536) → result ≡ truth falses.now l }
-{
-    is_off(falses, flip(l))
-}
-
-// The literal l is false from now on; the trail's length.
-pub fn assume(falses: &mut Falses, trail: &mut Trail, n: usize, l: u32) -> usize
-    ensures { ShapeIn falses.old n → (l < 65536)
-        → AssumedIn falses.old trail.old n l falses.new trail.new result }
-{
-    let i = wide(l % 65536);
-    if falses[i] != 0 {
-        return n;
+impl Trail {
+    // The literal at place k below 65536.
+    pub fn literal_at(&self, k: usize) -> u32
+        ensures { (result < 65536) × ((k < 65536) → result ≡ literal_in self.now k) }
+    {
+        self.literals[k % 65536] as u32
     }
-    if 65536 <= n {
-        return n;
+
+    pub fn is_off(&self, l: u32) -> bool
+        ensures { (l < 65536) → result ≡ off self.now.falses l }
+    {
+        self.falses[(l % 65536) as usize] != 0
     }
-    falses[i] = 1;
-    trail[n] = (l % 65536) as u16;
-    n + 1
-}
 
-// The literal l is true from now on; the trail's length.
-pub fn make_true(falses: &mut Falses, trail: &mut Trail, n: usize, l: u32) -> usize
-    ensures { ShapeIn falses.old n → (l < 65536)
-        → AssumedIn falses.old trail.old n (negation l) falses.new trail.new result }
-{
-    assume(falses, trail, n, flip(l))
-}
+    // A literal is true where its negation is false.
+    pub fn is_true(&self, l: u32) -> bool
+        ensures { (l < 65536) → result ≡ truth self.now.falses l }
+    {
+        self.is_off(flip(l))
+    }
 
-// Takes back what the trail has from place base on.
-pub fn undo(falses: &mut Falses, trail: &Trail, from: usize, base: usize)
-    ensures { TrailedIn falses.old trail.now from → (base ≤ from)
-        → UndoneIn falses.old trail.now base falses.new }
-{
-    let mut n = within(from);
-    while base < n {
-        n -= 1;
-        falses[wide(wide16(trail[n]))] = 0;
+    // The literal l is false from now on.
+    pub fn assume(&mut self, l: u32)
+        ensures { ShapeIn self.old → (l < 65536) → AssumedIn self.old l self.new }
+    {
+        let i = (l % 65536) as usize;
+        if self.falses[i] != 0 {
+            return;
+        }
+        if 65536 <= self.length {
+            return;
+        }
+        self.falses[i] = 1;
+        self.literals[self.length] = i as u16;
+        self.length += 1;
+    }
+
+    // The literal l is true from now on.
+    pub fn make_true(&mut self, l: u32)
+        ensures { ShapeIn self.old → (l < 65536) → AssumedIn self.old (negation l) self.new }
+    {
+        self.assume(flip(l));
+    }
+
+    // Takes back what the trail has from place base on.
+    pub fn undo(&mut self, base: usize)
+        ensures undone { TrailedIn self.old → (base ≤ self.old.length) → UndoneIn self.old base self.new }
+        ensures cut { self.new.length ≤ base }
+        ensures kept { self.new.literals ≡ self.old.literals }
+    {
+        let n = within(self.length);
+        for k in (base..n).rev() {
+            self.falses[self.literals[k] as usize] = 0;
+        }
+        self.length = n.min(base);
     }
 }

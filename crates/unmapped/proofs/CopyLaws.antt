@@ -1,6 +1,6 @@
 -- The copies of a clause one after the other, and rule 9. Assumes nothing.
-use mathlib.Core.Path.{◌≡◌, refl, ap, ap₂, sym, ◌∙◌}
-use mathlib.Core.Bool.{Bool, true, false, ◌&&◌}
+use mathlib.Core.Path.{◌≡◌, refl, ap, ap₂, ◌∙◌}
+use mathlib.Core.Bool.{◌&&◌}
 use mathlib.Core.List.{List, [], ◌∷◌, map}
 use Prim.Native.Nat.{ℕ, ◌/◌}
 use Rattle.lines.specs.Lists.{all}
@@ -10,19 +10,6 @@ use Rattle.rules.specs.Expansion.{Copy, is_mapped}
 use Rattle.mapped.specs.Marks.{is_noted, NotedShown}
 use Rattle.mapped.proofs.MarkLaws.{mapped_rule}
 use Rattle.unmapped.specs.Copies.{all_mapped}
-
-module _ (noted : List ℕ) where
-  pub mapped_end : {xs : List ℕ} → xs ≡ [] → all_mapped noted xs ≡ true
-  unfolding all_mapped
-  mapped_end e = ap (all (λ x. is_noted noted (x / 2))) e
-
-  pub mapped_more : {xs ys : List ℕ} {x : ℕ} → xs ≡ x ∷ ys → {b : Bool} → b ≡ is_noted noted (x / 2) → b ≡ true → all_mapped noted xs ≡ all_mapped noted ys
-  unfolding all_mapped
-  mapped_more {ys} e q z = ap (all (λ x. is_noted noted (x / 2))) e ∙ ap (λ b. b && all (λ x. is_noted noted (x / 2)) ys) (sym q ∙ z)
-
-  pub mapped_not : {xs ys : List ℕ} {x : ℕ} → xs ≡ x ∷ ys → {b : Bool} → b ≡ is_noted noted (x / 2) → b ≡ false → all_mapped noted xs ≡ false
-  unfolding all_mapped
-  mapped_not {ys} e q z = ap (all (λ x. is_noted noted (x / 2))) e ∙ ap (λ b. b && all (λ x. is_noted noted (x / 2)) ys) (sym q ∙ z)
 
 -- RULE 9, where the marks show the copies m
 pub mapped_all : {noted : List ℕ} {m : List Copy} → NotedShown noted m → (c : Lits) {xs : List ℕ} → xs ≡ map code_of c

@@ -2,26 +2,21 @@
 #![tactic(auto)]
 
 ghost use Rattle.std.specs.Prelude.{◌≡◌};
-ghost use Rattle.clauses.specs.Standing.{literals_in};
+ghost use Rattle.cells.specs.Codes.{codes_left};
 ghost use Rattle.unmapped.specs.Copies.{all_mapped};
 
-use clauses::Cursor;
-use mapped::Noted;
+use cells::Codes;
+use mapped::{Noted, is_mapped};
 
-// Whether all copies of a clause, from a literal of it on, are mapped.
-pub fn all_mapped(proof: &[i32], from: Cursor, noted: &Noted) -> bool
-    ensures { result ≡ all_mapped noted.now (literals_in proof.now from) }
+// Whether all copies of a clause are mapped.
+#[tactic(auto, unfolding(crate::specs::Copies::all_mapped))]
+pub fn all_mapped(clause: Codes, noted: &Noted) -> bool
+    ensures { result ≡ all_mapped noted.now (codes_left clause.entry) }
 {
-    let mut c = from;
-    loop {
-        let x = clauses::literal(proof, c);
-        if x == 0 {
-            return true;
-        }
-        if mapped::is_mapped(noted, x) {
-            c = clauses::after(proof, c);
-        } else {
+    for x in clause {
+        if !is_mapped(noted, x) {
             return false;
         }
     }
+    true
 }

@@ -13,6 +13,8 @@ use Rattle.rules.specs.Needs.{Places, places}
 use Rattle.rules.specs.Limits.{limits_with, limits, program_limits}
 use Rattle.rules.specs.FormulaLines.{read_formula}
 use Rattle.rules.specs.CertificateLines.{read_certificate}
+use Rattle.rules.specs.Rule.{of_file}
+use Rattle.rules.specs.declared.Rule.TheVariants.{Overlong}
 use Rattle.rules.specs.Verdict.{Checked, early, of_certificate, of_formula, check, verdict, the_rules, FeratNumber, Ranged}
 use Rattle.rules.specs.declared.Verdict.TheVariants.{Refused}
 use Rattle.rules.specs.declared.Report.{Report}
@@ -71,12 +73,12 @@ module _ (bs cs : List ℕ) where
         }
 
     -- "1 overlong", of the formula and of the certificate
-    pub overlong_formula : 16384 < length bs → (r : Report) → r ≡ refused_early 1 1 0 → ReportedIn bs cs t r t
+    pub overlong_formula : 16384 < length bs → (r : Report) → r ≡ refused_early (of_file Overlong) 1 → ReportedIn bs cs t r t
     overlong_formula h r e =
         told r t _ (sym (tested 16384 65536 (lengths_of t) false (leb (length cs) 65536) (lt-leb (length bs) 16384 h) refl)) e (all_self _ t)
 
     module _ (p : length bs ≤ 16384) where
-      pub overlong_certificate : 65536 < length cs → (r : Report) → r ≡ refused_early 1 2 0 → ReportedIn bs cs t r t
+      pub overlong_certificate : 65536 < length cs → (r : Report) → r ≡ refused_early (of_file Overlong) 2 → ReportedIn bs cs t r t
       overlong_certificate h r e =
           told r t _ (sym (tested 16384 65536 (lengths_of t) true false (le-leb (length bs) 16384 p) (lt-leb (length cs) 65536 h))) e (all_self _ t)
 

@@ -6,8 +6,9 @@ use Rattle.rules.specs.Verdict.{check, verdict, FeratNumber, Ranged}
 use Rattle.rules.specs.Falsity.{FalseFile}
 use Rattle.rules.specs.declared.Verdict.TheVariants.{Accepted}
 use Rattle.rules.specs.declared.Report.{Report}
-use Rattle.tables.specs.Tables.{Tables, lengths_of, KeptAll}
+use Rattle.tables.specs.Tables.{Tables, tables, lengths_of, KeptAll}
 use Rattle.report.specs.Fields.{Rendered}
+use Rattle.verdict.specs.declared.Held.{Held}
 
 -- THE REPORT on two files, t being the tables before and u after
 pub record ReportedIn (formula certificate : List ℕ) (t : Tables) (r : Report) (u : Tables) : Type 0 where
@@ -19,6 +20,10 @@ pub record ReportedIn (formula certificate : List ℕ) (t : Tables) (r : Report)
   pub ranged : Ranged FeratNumber formula certificate r.verdict
   -- an accepted formula "is false when its quantifiers are read recursively"
   pub falsity : r.verdict ≡ Accepted → FalseFile formula
+
+-- the six tables of the program
+abbrev pub held_in : Held → Tables
+held_in h = tables h.prefix h.matrix h.map h.proof h.marks h.values
 
 -- A file is loaded into a buffer: the buffer's first `count` bytes are the file's, as many of them as the buffer has places.
 abbrev pub Loaded : List ℕ → ℕ → List ℕ → Type 0

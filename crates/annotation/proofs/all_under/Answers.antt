@@ -1,25 +1,18 @@
-use native.Mathlib.Omega.{arith}
-use mathlib.Core.Path.{refl, sym, ◌∙◌}
-use Prim.Native.Nat.{◌-◌}
-use Rattle.prefix.specs.Prefix.{entry}
-use Rattle.annotation.specs.Annotation.{under_one}
-use Rattle.mapped.proofs.NumberLaws.{item_told, all_end, all_more, all_fails}
+use Rattle.std.proofs.Common.{◌≡◌, ap, sym, ◌∙◌, Err, rules}
+use Rattle.rules.specs.Rule.{broken}
+use Rattle.mapped.proofs.NumberLaws.{all_end, all_fails}
 use Rattle.annotation.proofs.all_under.Goals as goal
 
-pub loop-n-init : goal.loop-n-init
-loop-n-init c = (refl, refl)
+pub returns-in_err-u : goal.returns-in_err-u
+returns-in_err-u c =
+    let g = rw c.in_err-u.was at c.in-Some.ensures.steps in
+    let r : c.from_residual.result ≡ Err c.in_err-u.field-0.0 = search rules in
+    all_end 8 c.loop-u.invariant g.0 (ap broken r ∙ g.1)
 
-pub returns-in-End : goal.returns-in-End
-returns-in-End c = let a = c.args in
-    all_end 8 (under_one (entry a.prefix.now) a.e) _ _ c.loop-n.i c.loop-n.invariant (item_told _ c.loop-n.i c.in-End.is c.item_at.ensures)
+pub returns-then-not-under : goal.returns-then-not-under
+returns-then-not-under c =
+    let g = rw c.in_ok-u.was at c.in-Some.ensures.steps in
+    all_fails 8 c.loop-u.invariant g.0 (sym c.if-not-under.ensures)
 
-pub loop-n-smaller : goal.loop-n-smaller
-loop-n-smaller c = let o = item_told _ c.loop-n.i c.in-Of.is c.item_at.ensures in omega arith
-
-pub loop-n-preserved : goal.loop-n-preserved
-loop-n-preserved c = let a = c.args in
-    all_more 8 (under_one (entry a.prefix.now) a.e) _ _ c.loop-n.i c.loop-n.invariant (item_told _ c.loop-n.i c.in-Of.is c.item_at.ensures) (sym c.under.ensures ∙ c.if-under.true)
-
-pub returns-else-under : goal.returns-else-under
-returns-else-under c = let a = c.args in
-    all_fails 8 (under_one (entry a.prefix.now) a.e) _ _ c.loop-n.i c.loop-n.invariant (item_told _ c.loop-n.i c.in-Of.is c.item_at.ensures) (sym c.under.ensures ∙ c.if-under.false)
+pub returns : goal.returns
+returns c = let g = c.in-None.ensures.steps in all_end 8 c.loop-u.invariant g.0 (sym g.1)

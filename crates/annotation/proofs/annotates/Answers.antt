@@ -1,12 +1,20 @@
+use Rattle.std.proofs.Common.{◌≡◌, refl, ap, ◌∙◌, Err, rules}
+use Rattle.rules.specs.Rule.{broken}
+use Rattle.rules.proofs.RuleLaws.{number_not_zero}
 use Rattle.mapped.proofs.NumberLaws.{list_ends}
-use Rattle.annotation.proofs.AnnotationLaws.{walked_told, annotates_1, annotates_2, annotates_3}
+use Rattle.annotation.proofs.AnnotationLaws.{annotates_1, annotates_2, annotates_3}
 use Rattle.annotation.proofs.annotates.Goals as goal
 
-pub returns-then-n-ne0 : goal.returns-then-n-ne0
-returns-then-n-ne0 c = λ y z. annotates_2 _ _ _ (list_ends _ _ y) _ (walked_told _ _ _ c.in-Of.is c.existentials.ensures) c.once-n.ensures (list_ends _ _ z) c.if-n-ne0.true
+pub returns-in_err-narrowest : goal.returns-in_err-narrowest
+returns-in_err-narrowest c = λ y z.
+    let r : c.from_residual.result ≡ Err c.in_err-narrowest.field-0.0 = search rules in
+    ap broken r ∙ annotates_1 _ _ _ (list_ends _ _ y) _ c.in_err-narrowest.ensures
 
-pub returns-in-Refuse : goal.returns-in-Refuse
-returns-in-Refuse c = λ y z. annotates_1 _ _ _ (list_ends _ _ y) (walked_told _ _ _ c.in-Refuse.is c.existentials.ensures)
+pub returns-in_err-once : goal.returns-in_err-once
+returns-in_err-once c = λ y z.
+    let r : c.from_residual-in_err-once.result ≡ Err c.in_err-once.field-0.0 = search rules in
+    ap broken r
+    ∙ annotates_2 _ _ _ (list_ends _ _ y) _ c.in_ok-narrowest.ensures c.in_err-once.ensures (list_ends _ _ z) (number_not_zero _)
 
-pub returns-else-n-ne0 : goal.returns-else-n-ne0
-returns-else-n-ne0 c = λ y z. annotates_3 _ _ _ (list_ends _ _ y) _ (walked_told _ _ _ c.in-Of.is c.existentials.ensures) c.once-n.ensures (list_ends _ _ z) c.if-n-ne0.false c.all_under.ensures
+pub returns : goal.returns
+returns c = λ y z. annotates_3 _ _ _ (list_ends _ _ y) _ c.in_ok-narrowest.ensures c.in_ok-once.ensures (list_ends _ _ z) refl c.all_under.ensures

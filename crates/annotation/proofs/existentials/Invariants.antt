@@ -1,11 +1,7 @@
-use Prim.Native.Nat.{◌-◌}
-use lib.ListN.{length}
 use Rattle.prefix.specs.Prefix.{entry}
+use Rattle.mapped.specs.Numbers.{numbers_at, end_of, numbers_left, end_left}
 use Rattle.annotation.proofs.AnnotationLaws.{Walking}
 use Rattle.annotation.proofs.existentials.Given as goal
 
-abbrev pub invariant-loop-n : goal.invariant-loop-n
-invariant-loop-n l = Walking (entry l.prefix) l.line l.at l.i l.least
-
-abbrev pub decreases-loop-n : goal.decreases-loop-n
-decreases-loop-n l = length l.line - l.i
+abbrev pub invariant-loop-e : goal.invariant-loop-e
+invariant-loop-e l = Walking (entry l.prefix) (numbers_at l.line l.at) (end_of l.line l.at) (numbers_left l.e-iterator) (end_left l.e-iterator) l.narrowest

@@ -1,21 +1,10 @@
-use native.Mathlib.Omega.{arith}
-use mathlib.Core.Path.{◌≡◌, refl, sym, ◌∙◌}
-use Prim.Native.Nat.{ℕ, ◌-◌}
-use Rattle.mapped.proofs.NumberLaws.{item_told}
 use Rattle.annotation.proofs.RisingLaws.{rising_end, rising_more}
 use Rattle.annotation.proofs.rises.Goals as goal
 
-pub loop-n-init : goal.loop-n-init
-loop-n-init c = (refl, refl)
+pub loop-u-preserved : goal.loop-u-preserved
+loop-u-preserved c =
+    let g = rw c.in-Ok.is at c.in-Some.ensures.steps in
+    rising_more c.loop-u.invariant g.0 g.1 c.if-last-u.true c.if-u-le-COPIES.true
 
-pub returns-in-End : goal.returns-in-End
-returns-in-End c = λ e. rising_end _ _ _ c.loop-n.i c.loop-n.invariant (item_told _ c.loop-n.i c.in-End.is c.item_at.ensures) e
-
-pub loop-n-smaller : goal.loop-n-smaller
-loop-n-smaller c = let o = (item_told _ c.loop-n.i c.in-Of.is c.item_at.ensures) in omega arith
-
-pub loop-n-preserved : goal.loop-n-preserved
-loop-n-preserved c = rising_more _ _ _ c.loop-n.i c.loop-n.invariant (item_told _ c.loop-n.i c.in-Of.is c.item_at.ensures) (sym c.follows.ensures ∙ c.if-follows.true)
-
-pub returns-else-follows : goal.returns-else-follows
-returns-else-follows c = λ e. absurd (let z : ◌≡◌ {A = ℕ} 0 1 = cc in omega arith)
+pub returns : goal.returns
+returns c = λ _. let g = c.in-None.ensures.steps in rising_end c.loop-u.invariant g.0 g.1

@@ -1,30 +1,35 @@
-use mathlib.Core.Path.{refl, sym, ◌∙◌}
-use native.Mathlib.Omega.{arith}
-use Prim.Native.Nat.{◌-◌}
-use Rattle.copies.proofs.Walks.{inside, all_stop, all_next, all_fail}
+use mathlib.Core.Path.{sym, ap, ◌∙◌}
+use Rattle.lines.specs.Lists.{all}
+use Rattle.cells.specs.Codes.{codes_left}
+use Rattle.copies.specs.Copies.{words, stands_in, annotation_in}
+use Rattle.copies.proofs.Walks.{all_next, all_fail}
+use Rattle.assignment.specs.Least.{items_of}
+use Rattle.assignment.specs.Annotations.{copy_fits}
 use Rattle.assignment.proofs.Arms.{long_past, copy_is}
 use Rattle.assignment.proofs.copies_fit.Goals as goal
 
-pub loop-l-init : goal.loop-l-init
-loop-l-init c = (refl, c.requires.1, long_past _, refl)
+pub loop-x-init : goal.loop-x-init
+loop-x-init c = record {
+  noted = c.requires.1;
+  long = long_past _;
+  fits =
+      ap (λ s. all (copy_fits (words c.args.view) (stands_in c.args.view) (annotation_in c.args.view) (items_of c.args.least.now)) (codes_left s))
+      c.into_iter-x-iterator.ensures.into_iter_gives
+      ∙ ap (all (copy_fits (words c.args.view) (stands_in c.args.view) (annotation_in c.args.view) (items_of c.args.least.now))) c.codes-x-items.ensures;
+}
 
-pub returns-then-x-eq0 : goal.returns-then-x-eq0
-returns-then-x-eq0 c = sym (c.loop-l.invariant.3 ∙ all_stop _ _ c.code-x.ensures.0 _ c.if-x-eq0.true)
+pub returns-then-not-is_part : goal.returns-then-not-is_part
+returns-then-not-is_part c =
+    sym (all_fail _ c.in-Some.ensures.steps
+    (copy_is _ _ _ _ _ _ c.annotation_at-a.ensures c.stands.ensures.0 c.length_next-long.ensures c.is_part.ensures.0 c.if-not-is_part.true))
+    ∙ c.loop-x.invariant.fits
 
-pub length_next-long-requires : goal.length_next-long-requires
-length_next-long-requires c = c.loop-l.invariant.2
-
-pub is_part-requires : goal.is_part-requires
-is_part-requires c = (c.requires.0, c.loop-l.invariant.1)
-
-pub overflow_add-i : goal.overflow_add-i
-overflow_add-i c = let h = inside _ _ c.code-x.ensures.0 c.if-x-eq0.false in omega arith
-
-pub loop-l-smaller : goal.loop-l-smaller
-loop-l-smaller c = let h = inside _ _ c.code-x.ensures.0 c.if-x-eq0.false in omega arith
-
-pub loop-l-preserved : goal.loop-l-preserved
-loop-l-preserved c = (c.is_part.auto.sizes ∙ c.loop-l.invariant.0, c.is_part.ensures.1, c.length_next-long.ensures, c.loop-l.invariant.3 ∙ all_next _ _ c.code-x.ensures.0 _ c.if-x-eq0.false (copy_is _ _ _ _ _ _ c.annotation_at-a.ensures c.stands-e.ensures.0 c.length_next-long.ensures c.is_part.ensures.0 c.if-is_part.true))
-
-pub returns-else-is_part : goal.returns-else-is_part
-returns-else-is_part c = sym (c.loop-l.invariant.3 ∙ all_fail _ _ c.code-x.ensures.0 _ c.if-x-eq0.false (copy_is _ _ _ _ _ _ c.annotation_at-a.ensures c.stands-e.ensures.0 c.length_next-long.ensures c.is_part.ensures.0 c.if-is_part.false))
+pub loop-x-preserved : goal.loop-x-preserved
+loop-x-preserved c = record {
+  noted = c.is_part.ensures.1;
+  long = c.length_next-long.ensures;
+  fits =
+      sym (all_next _ c.in-Some.ensures.steps
+      (copy_is _ _ _ _ _ _ c.annotation_at-a.ensures c.stands.ensures.0 c.length_next-long.ensures c.is_part.ensures.0 c.if-not-is_part.false))
+      ∙ c.loop-x.invariant.fits;
+}

@@ -1,16 +1,17 @@
 use mathlib.Core.Path.{◌≡◌}
-use Prim.Native.Nat.{◌-◌}
 use lib.ListN.{length}
 use Rattle.lines.specs.Lists.{all}
-use Rattle.cells.specs.Cells.{list_at}
-use Rattle.prefix.specs.Prefix.{entry}
-use Rattle.assignment.specs.Held.{listed, Noted}
-use Rattle.copies.specs.Copies.{stands_of, annotation_of}
+use Rattle.cells.specs.Codes.{codes_left}
+use Rattle.copies.specs.Copies.{words, stands_in, annotation_in, list_in, line_in}
+use Rattle.assignment.specs.Held.{Noted}
+use Rattle.assignment.specs.Least.{items_of}
 use Rattle.assignment.specs.Annotations.{part_size, copy_fits}
 use Rattle.assignment.proofs.copies_fit.Given as goal
 
-abbrev pub invariant-loop-l : goal.invariant-loop-l
-invariant-loop-l l = (length l.sizes ≡ length l.initial.sizes) × Noted (part_size (entry l.prefix) (listed l.held l.n)) l.sizes × (l.long ≡ length (list_at l.map l.last)) × (all (copy_fits (entry l.prefix) (stands_of l.values l.map) (annotation_of l.values l.map) (listed l.held l.n)) (list_at l.proof l.l) ≡ all (copy_fits (entry l.prefix) (stands_of l.values l.map) (annotation_of l.values l.map) (listed l.held l.n)) (list_at l.proof l.i))
-
-abbrev pub decreases-loop-l : goal.decreases-loop-l
-decreases-loop-l l = length l.proof - l.i
+abbrev pub invariant-loop-x : goal.invariant-loop-x
+invariant-loop-x l = record {
+  noted : Noted (part_size (words l.view) (items_of l.least)) l.sizes;
+  long : l.long ≡ length (list_in l.view.map.now l.last);
+  fits : all (copy_fits (words l.view) (stands_in l.view) (annotation_in l.view) (items_of l.least)) (codes_left l.x-iterator)
+      ≡ all (copy_fits (words l.view) (stands_in l.view) (annotation_in l.view) (items_of l.least)) (line_in l.view);
+}

@@ -1,13 +1,13 @@
-use Rattle.tables.specs.Tables.{six}
+use native.Mathlib.Omega.{arith}
+use Rattle.tables.specs.Lent.{tables_of}
 use Rattle.checks.proofs.ListLaws.{ran_ferat, ran_ferp, ran_none}
-use Rattle.ferp.proofs.check.Reads as checking-check-reads'
 use Rattle.checks.proofs.check_kind.Goals as goal
 
-pub returns-then-kind-eq-FERAT : goal.returns-then-kind-eq-FERAT
-returns-then-kind-eq-FERAT c = ran_ferat _ _ c.if-kind-eq-FERAT.true c.check.ensures
+pub returns-in-1-clause-ran : goal.returns-in-1-clause-ran
+returns-in-1-clause-ran c = ran_ferat _ _ c.in-1.is c.check.ensures.checked
 
-pub returns-then-kind-eq-FERP : goal.returns-then-kind-eq-FERP
-returns-then-kind-eq-FERP c = ran_ferp _ _ c.if-kind-eq-FERAT.false c.if-kind-eq-FERP.true c.check-then-kind-eq-FERP.ensures
+pub returns-in-2-clause-ran : goal.returns-in-2-clause-ran
+returns-in-2-clause-ran c = ran_ferp _ _ (λ e. omega (arith, e, c.in-2.is)) c.in-2.is c.check-in-2.ensures.checked
 
-pub returns : goal.returns
-returns c = ran_none _ _ (six c.args.prefix.now c.args.matrix.now c.args.map.now c.args.proof.now c.args.marks.now c.args.values.now) c.if-kind-eq-FERAT.false c.if-kind-eq-FERP.false
+pub returns-in_default-clause-ran : goal.returns-in_default-clause-ran
+returns-in_default-clause-ran c = ran_none _ _ (tables_of c.args.tables.now) (λ e. omega (arith, e, c.in_default)) (λ e. omega (arith, e, c.in_default))

@@ -1,6 +1,7 @@
-use mathlib.Core.Path.{refl}
-use Rattle.clauses.proofs.CursorLaws.{none_there}
+use mathlib.Core.Path.{◌∙◌}
+use native.Mathlib.Omega.{arith}
+use Rattle.cells.proofs.Laws.{list_past}
 use Rattle.clauses.proofs.none.Goals as goal
 
 pub returns : goal.returns
-returns c = none_there _ _ refl
+returns c = c.new.ensures.left ∙ list_past _ _ (omega arith)

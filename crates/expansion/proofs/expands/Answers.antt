@@ -5,8 +5,13 @@ use Rattle.expansion.proofs.expands.Goals as goal
 
 pub returns-then-literals_fit : goal.returns-then-literals_fit
 unfolding expands_at
-returns-then-literals_fit c = λ u h. (expands_yes _ _ _ _ _ (sym (c.literals_fit.ensures u).0 ∙ c.if-literals_fit.true) (c.annotations_fit.ensures (c.literals_fit.ensures u).1 h).0, (c.annotations_fit.ensures (c.literals_fit.ensures u).1 h).1)
+returns-then-literals_fit c = λ u h.
+    let a = c.literals_fit.ensures u in
+    let b = c.annotations_fit.ensures a.1 h in
+    (expands_yes _ _ _ _ _ (sym a.0 ∙ c.if-literals_fit.true) b.0, b.1)
 
-pub returns : goal.returns
+pub returns-else-literals_fit : goal.returns-else-literals_fit
 unfolding expands_at
-returns c = λ u h. (expands_no _ _ _ _ _ (sym (c.literals_fit.ensures u).0 ∙ c.if-literals_fit.false), (c.literals_fit.ensures u).1)
+returns-else-literals_fit c = λ u h.
+    let a = c.literals_fit.ensures u in
+    (c.if-literals_fit.false ∙ expands_no _ _ _ _ _ (sym a.0 ∙ c.if-literals_fit.false), a.1)

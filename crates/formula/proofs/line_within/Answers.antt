@@ -1,9 +1,6 @@
 use mathlib.Core.Path.{sym, ◌∙◌}
-use Rattle.formula.proofs.OneLine.{within_skip, within_problem, within_binding, within_clause, quantifier_number}
+use Rattle.formula.proofs.OneLine.{within_skip, within_problem, within_binding, within_clause}
 use Rattle.formula.proofs.line_within.Goals as goal
-
-pub binding_line-requires : goal.binding_line-requires
-binding_line-requires c = let k = quantifier_number _ (sym c.kind_of.ensures ∙ c.in-Binding.is) in (c.requires.short, k.0, k.1)
 
 pub returns-in-Skip : goal.returns-in-Skip
 returns-in-Skip c = within_skip _ _ _ _ (sym c.kind_of.ensures ∙ c.in-Skip.is)

@@ -1,10 +1,7 @@
-use Prim.Native.Nat.{◌-◌}
-use lib.ListN.{length}
+use mathlib.Core.Path.{◌≡◌}
+use Rattle.lines.specs.Literals.{literals_line, literals_at}
 use Rattle.formula.proofs.TableLaws.{Marking}
 use Rattle.formula.proofs.put_binding.Given as goal
 
 abbrev pub invariant-loop-x : goal.invariant-loop-x
-invariant-loop-x l = Marking l.line l.at l.q l.initial.prefix l.bound l.i l.prefix l.k
-
-abbrev pub decreases-loop-x : goal.decreases-loop-x
-decreases-loop-x l = length l.line - l.i
+invariant-loop-x l = (literals_line l.x-iterator ≡ l.line) × Marking l.line l.at l.q l.initial.prefix l.bound (literals_at l.x-iterator) l.prefix l.k

@@ -1,15 +1,18 @@
-use borrow.Author.Rules.{rules}
 use native.Mathlib.Omega.{arith}
 use mathlib.Core.Path.{◌≡◌, ap, sym, ◌∙◌}
 use mathlib.Core.Bool.{not}
-use Rattle.lines.proofs.Runs.{or_false, over_none, over_byte}
+use lib.ListN.{length}
+use Rattle.lines.proofs.Runs.{or_false}
+use Rattle.lines.proofs.Runs.{over_none, over_front, over_all}
 use Rattle.lines.proofs.ends_within.Goals as goal
 
-pub loop-j-init : goal.loop-j-init
-loop-j-init c = (omega arith, λ e. over_none _ c.args.s.now c.args.i)
+pub loop-b-init : goal.loop-b-init
+loop-b-init c = λ e. over_none _ c.args.block.now 0
 
-pub loop-j-preserved : goal.loop-j-preserved
-loop-j-preserved c = (omega arith, λ e. let t = or_false _ _ e in over_byte _ _ _ _ (c.loop-j.invariant.1 t.0) (search rules) (ap not (sym c.is_line_end-found.ensures ∙ t.1)))
+pub loop-b-preserved : goal.loop-b-preserved
+loop-b-preserved c = λ e. let t = or_false _ _ e in over_front _ _ _ (c.loop-b.invariant t.0) c.loop-b-test.true (ap not (sym c.is_line_end-found.ensures ∙ t.1))
 
 pub returns : goal.returns
-returns c = λ e. let q : c.loop-j.j ≡ 8 = omega (arith, c.loop-j.invariant.0) in rw q at (c.loop-j.invariant.1 e)
+returns c = λ e.
+    let q : c.loop-b.b-index ≡ length c.args.block.now = omega (arith, c.loop-b.auto.b-index-end) in
+    over_all _ c.args.block.now (rw q at (c.loop-b.invariant e))

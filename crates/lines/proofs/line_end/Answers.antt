@@ -2,28 +2,45 @@ use native.Mathlib.Omega.{arith}
 use mathlib.Core.Path.{refl, ap, sym, ◌∙◌}
 use mathlib.Core.Bool.{not}
 use Prim.Native.Nat.{◌+◌}
-use Rattle.lines.proofs.Runs.{run_past, run_stop}
-use borrow.Author.Rules.{rules}
+use Rattle.std.specs.Slice.Iter.{chunks_exact_rest, chunks_exact_size}
+use Rattle.lines.specs.declared.Run.TheVariants.{Line}
+use Rattle.lines.specs.Scan.{passes}
+use Rattle.lines.proofs.Runs.{run_le, run_past, run_stop, slice_from, block_next, block_over, block_within}
 use Rattle.lines.proofs.line_end.Goals as goal
 
+pub returns-then-s-at : goal.returns-then-s-at
+returns-then-s-at c = let z = run_past (passes Line) c.args.s.now c.args.at c.if-s-at.true in omega arith
+
 pub returns-then-is_line_end : goal.returns-then-is_line_end
-returns-then-is_line_end c = let at = c.args.at in
-    sym (ap (λ n. at + n) (run_stop _ _ at c.if-at-s.true (ap not (sym c.is_line_end.ensures ∙ c.if-is_line_end.true))) ∙ omega arith)
+returns-then-is_line_end c = let z = run_stop (passes Line) c.args.s.now c.args.at c.if-s-at.false (ap not (sym c.is_line_end.ensures ∙ c.if-is_line_end.true)) in omega arith
 
-pub loop-i-init : goal.loop-i-init
-loop-i-init c = refl
+pub loop-block-init : goal.loop-block-init
+loop-block-init c =
+    let e = c.into_iter-block-iterator.ensures.into_iter_gives in
+    let n = c.chunks_exact-block-items.ensures in
+    (ap chunks_exact_size e ∙ n.size, ap chunks_exact_rest e ∙ n.rest ∙ slice_from (passes Line) c.args.s.now c.args.at, refl)
 
-pub returns-then-s-i-lt8 : goal.returns-then-s-i-lt8
-returns-then-s-i-lt8 c = c.past.ensures ∙ sym c.loop-i.invariant
+pub before_end-requires : goal.before_end-requires
+before_end-requires c = let n = c.in-Some.ensures.steps.1.1 ∙ c.loop-block.invariant.0 in omega arith
 
 pub overflow_add-i : goal.overflow_add-i
-overflow_add-i c = let b = c.before_end.ensures.0 in search rules
+overflow_add-i c = let l = c.loop-block.invariant in let s = c.in-Some.ensures.steps in
+    let n = s.1.1 ∙ l.0 in
+    let b = block_next (passes Line) c.args.s.now c.loop-block.i _ _ (sym l.1 ∙ s.1.0) n in
+    let r = run_le (passes Line) c.in-Some.block.now in
+    omega (arith, b.1, c.before_end.ensures, c.well_formed)
 
 pub returns-then-ends_within : goal.returns-then-ends_within
-returns-then-ends_within c = c.past-then-ends_within.ensures ∙ sym (c.loop-i.invariant ∙ ap (λ n. c.loop-i.i + n) c.before_end.ensures.1 ∙ omega arith)
+returns-then-ends_within c = let l = c.loop-block.invariant in let s = c.in-Some.ensures.steps in
+    let r = block_within (passes Line) c.args.s.now c.loop-block.i _ _ (sym l.1 ∙ s.1.0) (s.1.1 ∙ l.0) c.before_end.result c.before_end.ensures in
+    c.past.ensures ∙ sym (l.2 ∙ ap (λ n. c.loop-block.i + n) r ∙ omega arith)
 
-pub loop-i-preserved : goal.loop-i-preserved
-loop-i-preserved c = c.loop-i.invariant ∙ ap (λ n. c.loop-i.i + n) (c.ends_within.ensures c.if-ends_within.false) ∙ omega arith
+pub loop-block-preserved : goal.loop-block-preserved
+loop-block-preserved c = let l = c.loop-block.invariant in let s = c.in-Some.ensures.steps in
+    let d = sym l.1 ∙ s.1.0 in
+    let n = s.1.1 ∙ l.0 in
+    let r = block_over (passes Line) c.args.s.now c.loop-block.i _ _ d n (c.ends_within.ensures c.if-ends_within.false) in
+    (s.0 ∙ l.0, (block_next (passes Line) c.args.s.now c.loop-block.i _ _ d n).0, l.2 ∙ ap (λ n. c.loop-block.i + n) r ∙ omega arith)
 
 pub returns : goal.returns
-returns c = sym (c.loop-i.invariant ∙ ap (λ n. c.loop-i.i + n) (run_past _ _ c.loop-i.i c.loop-i-test.false) ∙ omega arith)
+returns c = c.past-2.ensures ∙ sym c.loop-block.invariant.2

@@ -1,21 +1,25 @@
 use native.Mathlib.Omega.{arith}
-use Rattle.lines.proofs.Parts.{left_zero, left_start, left_found, left_none, left_next}
+use mathlib.Core.Path.{◌≡◌, subst}
+use Prim.Native.Nat.{◌+◌, ◌-◌}
+use Rattle.lines.proofs.Parts.{Left, left_zero, left_start, left_found, left_none, left_next}
 use Rattle.lines.proofs.line_start.Goals as goal
 
 pub returns-then-line-eq0 : goal.returns-then-line-eq0
 returns-then-line-eq0 c = left_zero _ _ c.if-line-eq0.true
 
-pub loop-left-init : goal.loop-left-init
-loop-left-init c = left_start _ _ c.if-line-eq0.false
+pub loop-init : goal.loop-init
+loop-init c = left_start _ _ c.if-line-eq0.false
 
 pub returns-then-s-e : goal.returns-then-s-e
-returns-then-s-e c = left_none _ _ c.loop-left.at c.loop-left.left c.loop-left.invariant c.line_end-e.ensures c.loop-left-test.true c.if-s-e.true
+returns-then-s-e c = let l = c.loop in left_none _ _ l.at (c.args.line - l.counter) l.invariant c.line_end-e.ensures (omega arith) c.if-s-e.true
 
 pub overflow_add-at : goal.overflow_add-at
 overflow_add-at c = omega (arith, c.if-s-e.false, c.well_formed)
 
-pub loop-left-preserved : goal.loop-left-preserved
-loop-left-preserved c = left_next _ _ c.loop-left.at c.loop-left.left c.loop-left.invariant c.line_end-e.ensures c.loop-left-test.true c.if-s-e.false
+pub loop-preserved : goal.loop-preserved
+loop-preserved c = let l = c.loop in
+    let e : c.args.line - l.counter - 1 ≡ c.args.line - (l.counter + 1) = omega arith in
+    subst (Left _ _ _) e (left_next _ _ l.at (c.args.line - l.counter) l.invariant c.line_end-e.ensures (omega arith) c.if-s-e.false)
 
 pub returns : goal.returns
-returns c = left_found _ _ c.loop-left.at c.loop-left.left c.loop-left.invariant c.loop-left-test.false
+returns c = let l = c.loop in left_found _ _ l.at (c.args.line - l.counter) l.invariant (omega arith)

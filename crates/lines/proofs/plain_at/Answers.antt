@@ -6,13 +6,13 @@ pub overflow_add-s : goal.overflow_add-s
 overflow_add-s c = let h = sign_fits c.args.line.now c.past-s.result c.minus_at-sign.ensures {n = 18446744073709551615} (omega (arith, c.well_formed)) (omega arith) in omega arith
 
 pub overflow_mul-result : goal.overflow_mul-result
-overflow_mul-result c = let h = code_fits _ c.past-s.result c.minus_at-sign.ensures (c.unsigned_at.ensures _ _ c.in-Of.is) in omega arith
+overflow_mul-result c = let h = code_fits _ c.past-s.result c.minus_at-sign.ensures (c.unsigned_at.ensures _ _ c.in-Some.is) in omega arith
 
 pub overflow_add-result : goal.overflow_add-result
-overflow_add-result c = let h = code_fits _ c.past-s.result c.minus_at-sign.ensures (c.unsigned_at.ensures _ _ c.in-Of.is) in omega arith
+overflow_add-result c = let h = code_fits _ c.past-s.result c.minus_at-sign.ensures (c.unsigned_at.ensures _ _ c.in-Some.is) in omega arith
 
 pub returns-then-sign-v : goal.returns-then-sign-v
-returns-then-sign-v c = plain_walked_from _ _ c.past-s.ensures c.minus_at-sign.ensures (c.unsigned_at.ensures _ _ c.in-Of.is) c.if-sign-v.true
+returns-then-sign-v c = plain_walked_from _ _ c.past-s.ensures c.minus_at-sign.ensures (c.unsigned_at.ensures _ _ c.in-Some.is) c.if-sign-v.true
 
 pub returns-else-sign-v : goal.returns-else-sign-v
 returns-else-sign-v c = says_nothing _ _

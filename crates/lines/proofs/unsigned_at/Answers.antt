@@ -1,5 +1,6 @@
 use native.Mathlib.Omega.{arith}
-use mathlib.Core.Path.{sym, ◌∙◌}
+use mathlib.Core.Path.{◌≡◌, sym, ◌∙◌}
+use lib.ListN.{length}
 use borrow.Author.Tests.{not-false}
 use Rattle.lines.proofs.Numbers.{digit_from, digit_below}
 use Rattle.lines.proofs.Walks.{walk_first, walk_on, walk_blank, walk_past, tells_nothing}
@@ -46,4 +47,4 @@ pub loop-i-preserved : goal.loop-i-preserved
 loop-i-preserved c = walk_on _ _ c.loop-i.invariant c.loop-i-test.true (sym c.is_digit-in-loop-i.ensures ∙ not-false _ c.if-not-is_digit-2.false-raw) (c.grows.ensures (not-false _ c.if-not-grows.false-raw))
 
 pub returns : goal.returns
-returns c = walk_past _ _ c.loop-i.invariant c.loop-i-test.false
+returns c = let e : c.loop-i.i ≡ length c.args.line.now = omega (arith, c.loop-i.auto.i-end) in rw e at (walk_past _ _ c.loop-i.invariant c.loop-i-test.false)

@@ -1,11 +1,6 @@
 -- The loop: the digits before the place say the value so far, and the word from there on ends where the number does. Assumes nothing.
-use Prim.Native.Nat.{◌-◌}
-use lib.ListN.{length}
 use Rattle.lines.proofs.Walks.{Walked}
 use Rattle.lines.proofs.unsigned_at.Given as goal
 
 abbrev pub invariant-loop-i : goal.invariant-loop-i
 invariant-loop-i l = Walked l.line l.from l.v l.i
-
-abbrev pub decreases-loop-i : goal.decreases-loop-i
-decreases-loop-i l = length l.line - l.i

@@ -1,26 +1,40 @@
 use native.Mathlib.Omega.{arith}
-use mathlib.Core.Path.{sym, ◌∙◌}
-use Prim.Native.Nat.{◌-◌}
-use Rattle.lists.proofs.ListLaws.{merged_none, turn_lost, turn_end, turn_more, on_the_way}
+use mathlib.Core.Path.{refl, ap, sym, ◌∙◌}
+use Rattle.lines.specs.Scan.{literal_at}
+use Rattle.lines.specs.Literals.{literals_line, literals_at}
+use Rattle.lists.specs.Lists.{listed_at}
+use Rattle.lists.proofs.ListLaws.{merged, merged_none, turn_lost, turn_end, turn_on, on_the_way}
 use Rattle.lists.proofs.list_at.Goals as goal
 
 pub loop-x-init : goal.loop-x-init
-loop-x-init c = (omega arith, merged_none _)
-
-pub returns-in_default : goal.returns-in_default
-returns-in_default c = let l = c.loop-x in
-    turn_lost _ _ l.i l.s l.n l.m l.invariant.1 (sym c.literal_at.ensures ∙ c.in_default.is)
+loop-x-init c =
+    let e = c.into_iter-x-iterator.ensures.into_iter_gives in
+    let n = c.new-x-items.ensures in
+    let p = ap literals_at e ∙ n.1 in
+    let z = c.none-measure.ensures in (
+      ap literals_line e ∙ n.0,
+      omega (arith, ap (λ q. q.count) z),
+      ap (λ q. merged q.negative q.count q.largest (listed_at c.args.line.now (literals_at c.into_iter-x-iterator.result))) z
+          ∙ merged_none _ ∙ ap (listed_at c.args.line.now) p,
+    )
 
 pub returns-then-x-eq0 : goal.returns-then-x-eq0
 returns-then-x-eq0 c = let l = c.loop-x in
-    turn_end _ _ l.i l.s l.n l.m l.invariant.1 (sym c.literal_at.ensures ∙ c.in-Of.is) c.if-x-eq0.true
-
-pub overflow_add-n : goal.overflow_add-n
-overflow_add-n c = let w = on_the_way _ c.loop-x.i (sym c.literal_at.ensures ∙ c.in-Of.is) in omega (arith, c.loop-x.invariant.0, c.well_formed)
-
-pub loop-x-smaller : goal.loop-x-smaller
-loop-x-smaller c = let w = on_the_way _ c.loop-x.i (sym c.literal_at.ensures ∙ c.in-Of.is) in omega arith
+    let p = ap (λ t. literal_at t (literals_at l.x-iterator)) (sym l.invariant.0) ∙ c.in-Some.ensures.steps.0 in
+    turn_end _ _ _ l.measure.negative l.measure.count l.measure.largest l.invariant.2 p c.if-x-eq0.true
 
 pub loop-x-preserved : goal.loop-x-preserved
 loop-x-preserved c = let l = c.loop-x in
-    let w = on_the_way _ l.i (sym c.literal_at.ensures ∙ c.in-Of.is) in (omega (arith, l.invariant.0), turn_more _ _ l.i l.s l.n l.m l.invariant.1 (sym c.literal_at.ensures ∙ c.in-Of.is) c.if-x-eq0.false c.larger-s.ensures c.larger-m.ensures)
+    let s = c.in-Some.ensures.steps in
+    let p = ap (λ t. literal_at t (literals_at l.x-iterator)) (sym l.invariant.0) ∙ s.0 in
+    let w = on_the_way _ _ p in
+    let q = c.with-measure.ensures (omega (arith, l.invariant.1, c.well_formed)) in (
+      s.1 ∙ l.invariant.0,
+      omega (arith, l.invariant.1, s.2, ap (λ q. q.count) q),
+      ap (λ q. merged q.negative q.count q.largest (listed_at c.args.line.now (literals_at c.next.new.self))) q
+          ∙ turn_on _ _ _ l.measure.negative l.measure.count l.measure.largest l.invariant.2 p s.2 c.if-x-eq0.false refl refl,
+    )
+
+pub returns : goal.returns
+returns c = let l = c.loop-x in
+    turn_lost _ _ _ l.measure.negative l.measure.count l.measure.largest l.invariant.2 (ap (λ t. literal_at t (literals_at l.x-iterator)) (sym l.invariant.0) ∙ c.in-None.ensures.steps.0)

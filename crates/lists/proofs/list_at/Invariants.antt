@@ -1,12 +1,12 @@
+-- The loop: what is left of the list, merged with what was read of it, is the whole list. Assumes nothing.
 use mathlib.Core.Path.{◌≡◌}
-use Prim.Native.Nat.{◌+◌, ◌≤◌, ◌-◌}
-use lib.ListN.{length}
+use Prim.Native.Nat.{◌+◌, ◌≤◌}
+use Rattle.lines.specs.Literals.{literals_line, literals_at}
 use Rattle.lists.specs.Lists.{listed_at}
 use Rattle.lists.proofs.ListLaws.{merged}
 use Rattle.lists.proofs.list_at.Given as goal
 
 abbrev pub invariant-loop-x : goal.invariant-loop-x
-invariant-loop-x l = (l.n + l.at ≤ l.i) × (merged l.s l.n l.m (listed_at l.line l.i) ≡ listed_at l.line l.at)
-
-abbrev pub decreases-loop-x : goal.decreases-loop-x
-decreases-loop-x l = length l.line - l.i
+invariant-loop-x l =
+    (literals_line l.x-iterator ≡ l.line) × (l.measure.count + l.at ≤ literals_at l.x-iterator)
+    × (merged l.measure.negative l.measure.count l.measure.largest (listed_at l.line (literals_at l.x-iterator)) ≡ listed_at l.line l.at)

@@ -1,24 +1,27 @@
 use native.Mathlib.Omega.{arith}
-use mathlib.Core.Path.{sym, ◌∙◌}
-use Prim.Native.Nat.{◌-◌}
-use Rattle.lists.proofs.ListLaws.{on_the_way}
+use mathlib.Core.Path.{ap, sym, ◌∙◌}
+use Rattle.lines.specs.Scan.{literal_at}
+use Rattle.lines.specs.Literals.{literals_line, literals_at}
 use Rattle.lists.proofs.StoreLaws.{storing_start, storing_lost, storing_end, storing_more}
 use Rattle.lists.proofs.store_list.Goals as goal
 
 pub loop-x-init : goal.loop-x-init
-loop-x-init c = storing_start
-
-pub returns-in_default : goal.returns-in_default
-returns-in_default c = let l = c.loop-x in
-    storing_lost l.invariant (sym c.literal_at.ensures ∙ c.in_default.is)
+loop-x-init c =
+    let e = c.into_iter-x-iterator.ensures.into_iter_gives in
+    let n = c.new-x-items.ensures in
+    let p = ap literals_at e ∙ n.1 in
+    (ap literals_line e ∙ n.0, storing_start p)
 
 pub returns-then-x-eq0 : goal.returns-then-x-eq0
 returns-then-x-eq0 c = let l = c.loop-x in
-    storing_end l.invariant (sym c.literal_at.ensures ∙ c.in-Of.is) c.put.ensures c.if-x-eq0.true
-
-pub loop-x-smaller : goal.loop-x-smaller
-loop-x-smaller c = let h = on_the_way _ _ (sym c.literal_at.ensures ∙ c.in-Of.is) in omega arith
+    storing_end l.invariant.1 (ap (λ t. literal_at t (literals_at l.x-iterator)) (sym l.invariant.0) ∙ c.in-Some.ensures.steps.0) c.put.ensures c.if-x-eq0.true
 
 pub loop-x-preserved : goal.loop-x-preserved
 loop-x-preserved c = let l = c.loop-x in
-    storing_more l.invariant (sym c.literal_at.ensures ∙ c.in-Of.is) c.put.ensures c.if-x-eq0.false c.place_after-k.ensures
+    let s = c.in-Some.ensures.steps in
+    let p = ap (λ t. literal_at t (literals_at l.x-iterator)) (sym l.invariant.0) ∙ s.0 in
+    (s.1 ∙ l.invariant.0, storing_more l.invariant.1 p c.put.ensures c.if-x-eq0.false s.2 (omega (arith, c.well_formed)) c.saturating_add-k.ensures)
+
+pub returns : goal.returns
+returns c = let l = c.loop-x in
+    storing_lost l.invariant.1 (ap (λ t. literal_at t (literals_at l.x-iterator)) (sym l.invariant.0) ∙ c.in-None.ensures.steps.0)

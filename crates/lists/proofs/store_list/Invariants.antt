@@ -1,10 +1,7 @@
-use Prim.Native.Nat.{◌-◌}
-use lib.ListN.{length}
+use mathlib.Core.Path.{◌≡◌}
+use Rattle.lines.specs.Literals.{literals_line, literals_at}
 use Rattle.lists.proofs.StoreLaws.{Storing}
 use Rattle.lists.proofs.store_list.Given as goal
 
 abbrev pub invariant-loop-x : goal.invariant-loop-x
-invariant-loop-x l = Storing l.line l.at l.initial.table l.from l.i l.k l.table
-
-abbrev pub decreases-loop-x : goal.decreases-loop-x
-decreases-loop-x l = length l.line - l.i
+invariant-loop-x l = (literals_line l.x-iterator ≡ l.line) × Storing l.line l.at l.initial.table l.from (literals_at l.x-iterator) l.k l.table

@@ -1,19 +1,12 @@
 use mathlib.Core.Path.{◌≡◌}
-use Prim.Native.Nat.{◌-◌}
-use lib.ListN.{length}
 use Rattle.lines.specs.Lists.{all}
-use Rattle.cells.specs.Cells.{list_at}
-use Rattle.prefix.specs.Prefix.{entry}
-use Rattle.copies.specs.Copies.{stands_of}
+use Rattle.cells.specs.Codes.{codes_left}
+use Rattle.copies.specs.Copies.{words, stands_in, line_in, list_in}
 use Rattle.literals.specs.Marks.{meets, stamped_by}
 use Rattle.literals.proofs.stamp_line.Given as goal
 
-abbrev pub invariant-loop-l : goal.invariant-loop-l
-invariant-loop-l l = (all (meets (entry l.prefix) (stands_of l.values l.map) (list_at l.matrix l.c) l.seen) (list_at l.proof l.i)
-    ≡ all (meets (entry l.prefix) (stands_of l.values l.map) (list_at l.matrix l.c) l.initial.seen) (list_at l.proof l.l))
-    × (stamped_by (entry l.prefix) (stands_of l.values l.map) (list_at l.matrix l.c) (list_at l.proof l.i) l.seen
-    ≡ stamped_by (entry l.prefix) (stands_of l.values l.map) (list_at l.matrix l.c) (list_at l.proof l.l) l.initial.seen)
-    × (length l.seen ≡ length l.initial.seen)
-
-abbrev pub decreases-loop-l : goal.decreases-loop-l
-decreases-loop-l l = length l.proof - l.i
+abbrev pub invariant-loop-x : goal.invariant-loop-x
+invariant-loop-x l = (all (meets (words l.view) (stands_in l.view) (list_in l.matrix l.c) l.seen) (codes_left l.x-iterator)
+    ≡ all (meets (words l.view) (stands_in l.view) (list_in l.matrix l.c) l.initial.seen) (line_in l.view))
+    × (stamped_by (words l.view) (stands_in l.view) (list_in l.matrix l.c) (codes_left l.x-iterator) l.seen
+    ≡ stamped_by (words l.view) (stands_in l.view) (list_in l.matrix l.c) (line_in l.view) l.initial.seen)

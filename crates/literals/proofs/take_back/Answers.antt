@@ -1,25 +1,20 @@
-use mathlib.Core.Path.{refl, sym, ◌∙◌}
-use native.Mathlib.Omega.{arith}
-use Prim.Native.Nat.{◌-◌}
+use mathlib.Core.Path.{sym, ap, ◌∙◌}
+use mathlib.Core.Bool.{◌&&◌, and-true}
 use Rattle.lines.specs.Lists.{all}
-use Rattle.copies.proofs.Walks.{inside}
-use Rattle.literals.proofs.MarkLaws.{back_stop, back_next}
+use Rattle.copies.specs.Copies.{words, stands_in, line_in}
+use Rattle.literals.specs.Marks.{answered, cleared}
+use Rattle.literals.proofs.MarkLaws.{back_next}
 use Rattle.literals.proofs.take_back.Goals as goal
 
-pub loop-l-init : goal.loop-l-init
-loop-l-init c = (refl, refl, refl)
+pub loop-y-preserved : goal.loop-y-preserved
+loop-y-preserved c = let l = c.loop-y in
+    let h = back_next _ _ _ c.in-Some.ensures.steps _ l.all c.clear_code-all.ensures.0 c.clear_code-all.ensures.1 in
+    (h.0 ∙ l.invariant.0, h.1 ∙ l.invariant.1)
 
-pub returns-then-y-eq0 : goal.returns-then-y-eq0
-returns-then-y-eq0 c = let h = back_stop _ _ _ _ _ c.code-y.ensures.0 _ _ c.if-y-eq0.true in
-    (sym h.0 ∙ c.loop-l.invariant.0, sym h.1 ∙ c.loop-l.invariant.1)
-
-pub overflow_add-i : goal.overflow_add-i
-overflow_add-i c = let h = inside _ _ c.code-y.ensures.0 c.if-y-eq0.false in omega arith
-
-pub loop-l-smaller : goal.loop-l-smaller
-loop-l-smaller c = let h = inside _ _ c.code-y.ensures.0 c.if-y-eq0.false in omega arith
-
-pub loop-l-preserved : goal.loop-l-preserved
-loop-l-preserved c = let l = c.loop-l in
-    let h = back_next _ _ _ _ _ c.code-y.ensures.0 _ l.all c.if-y-eq0.false c.clear_code-all.ensures.0 c.clear_code-all.ensures.1 in
-    (h.0 ∙ l.invariant.0, h.1 ∙ l.invariant.1, omega arith)
+pub returns : goal.returns
+unfolding cleared
+returns c = let l = c.loop-y in (
+  sym (ap (λ ys. l.all && all (answered (words c.args.view) (stands_in c.args.view) (line_in c.args.view) l.seen) ys) c.in-None.ensures.steps.0 ∙ and-true l.all)
+      ∙ l.invariant.0,
+  sym (ap (λ ys. cleared ys l.seen) c.in-None.ensures.steps.0) ∙ l.invariant.1,
+)

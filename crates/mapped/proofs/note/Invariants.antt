@@ -1,12 +1,6 @@
-use mathlib.Core.Path.{◌≡◌}
-use Prim.Native.Nat.{◌-◌}
-use lib.ListN.{length}
-use Rattle.mapped.specs.Numbers.{numbers_at, end_of}
-use Rattle.mapped.specs.Marks.{noting}
+use Rattle.mapped.specs.Numbers.{numbers_at, end_of, numbers_left, end_left}
+use Rattle.mapped.proofs.MarkLaws.{Noting}
 use Rattle.mapped.proofs.note.Given as goal
 
-abbrev pub invariant-loop-n : goal.invariant-loop-n
-invariant-loop-n l = (noting (numbers_at l.line l.i) l.noted ≡ noting (numbers_at l.line l.at) l.initial.noted) × (end_of l.line l.i ≡ end_of l.line l.at)
-
-abbrev pub decreases-loop-n : goal.decreases-loop-n
-decreases-loop-n l = length l.line - l.i
+abbrev pub invariant-loop-copy : goal.invariant-loop-copy
+invariant-loop-copy l = Noting (numbers_at l.line l.at) l.initial.noted (end_of l.line l.at) (numbers_left l.copy-iterator) l.noted (end_left l.copy-iterator)

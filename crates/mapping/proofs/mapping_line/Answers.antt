@@ -1,57 +1,69 @@
+use Rattle.std.proofs.Common.{◌≡◌, refl, sym, ◌∙◌, Err, rules, arith}
+use Rattle.rules.proofs.RuleLaws.{number_not_zero}
+use Rattle.tables.specs.Lent.{tables_of}
 use Rattle.mapping.specs.MappingLine.{lent}
 use Rattle.mapping.proofs.RuleLaws.{mapping_told, mapping_lost, lists_long}
 use Rattle.mapping.proofs.LineLaws.{line_malformed, line_early, line_passed, line_taken, line_unfit, line_stored, line_good}
-use native.Mathlib.Omega.{arith}
 use Rattle.mapping.proofs.mapping_line.Goals as goal
 
-pub returns-in_default : goal.returns-in_default
-returns-in_default c = line_malformed _ _ _ _ _ _ _ (mapping_lost _ _ c.mapping_at.ensures c.in_default.is)
+pub returns-in_err-lists-clause-read : goal.returns-in_err-lists-clause-read
+returns-in_err-lists-clause-read c =
+    let h = mapping_lost _ _ c.mapping_at.ensures (sym c.ok_or.ensures.value ∙ c.in_err-lists.was) in
+    let r : c.from_residual.result ≡ Err c.in_err-lists.field-0.0 = search rules in
+    rw (r, h.0) (line_malformed _ _ _ _ _ _ _ h.1)
 
-pub overflow_mul-need : goal.overflow_mul-need
-overflow_mul-need c = let o = mapping_told _ _ c.mapping_at.ensures c.in-Lists.is in
+pub overflow_mul-used : goal.overflow_mul-used
+overflow_mul-used c =
+    let o = mapping_told _ _ c.mapping_at.ensures (sym c.ok_or.ensures.value ∙ c.in_ok-lists.was) in
     omega (arith, lists_long o, c.well_formed.0)
 
-pub overflow_add-need : goal.overflow_add-need
-overflow_add-need c = let o = mapping_told _ _ c.mapping_at.ensures c.in-Lists.is in
+pub overflow_add-used : goal.overflow_add-used
+overflow_add-used c =
+    let o = mapping_told _ _ c.mapping_at.ensures (sym c.ok_or.ensures.value ∙ c.in_ok-lists.was) in
     omega (arith, lists_long o, c.well_formed.0)
 
-pub overflow_add-need-2 : goal.overflow_add-need-2
-overflow_add-need-2 c = let o = mapping_told _ _ c.mapping_at.ensures c.in-Lists.is in
+pub overflow_add-used-2 : goal.overflow_add-used-2
+overflow_add-used-2 c =
+    let o = mapping_told _ _ c.mapping_at.ensures (sym c.ok_or.ensures.value ∙ c.in_ok-lists.was) in
     omega (arith, lists_long o, c.well_formed.0)
 
-pub overflow_add-need-3 : goal.overflow_add-need-3
-overflow_add-need-3 c = let o = mapping_told _ _ c.mapping_at.ensures c.in-Lists.is in
+pub overflow_add-used-3 : goal.overflow_add-used-3
+overflow_add-used-3 c =
+    let o = mapping_told _ _ c.mapping_at.ensures (sym c.ok_or.ensures.value ∙ c.in_ok-lists.was) in
     omega (arith, lists_long o, c.well_formed.0)
 
-pub returns-then-n-ne0 : goal.returns-then-n-ne0
-returns-then-n-ne0 c = let o = mapping_told _ _ c.mapping_at.ensures c.in-Lists.is in
-    line_early o _ _ _ _ _ c.larger-high.ensures c.roomy-room.ensures c.ranged.ensures
-    c.early-n.ensures c.if-n-ne0.true
+pub returns-in_err-early-clause-read : goal.returns-in_err-early-clause-read
+returns-in_err-early-clause-read c =
+    let o = mapping_told _ _ c.mapping_at.ensures (sym c.ok_or.ensures.value ∙ c.in_ok-lists.was) in
+    let r : c.from_residual-in_err-early.result ≡ Err c.in_err-early.field-0.0 = search rules in
+    rw r (line_early o _ _ _ _ _ _ c.max-largest.ensures c.roomy-room.ensures c.ranged.ensures c.in_err-early.ensures)
 
-pub returns-then-p-ne0 : goal.returns-then-p-ne0
-returns-then-p-ne0 c = let o = mapping_told _ _ c.mapping_at.ensures c.in-Lists.is in
-    let passed = line_passed o c.args.in_turn c.args.v c.args.state c.args.prefix.now
-    (lent c.args.map.now c.args.values.now c.args.noted.now) c.larger-high.ensures
-    c.roomy-room.ensures c.ranged.ensures c.early-n.ensures c.if-n-ne0.false in
-    line_taken o _ _ _ _ _ passed c.fresh-p.ensures c.if-p-ne0.true
+pub returns-in_err-fresh-clause-read : goal.returns-in_err-fresh-clause-read
+returns-in_err-fresh-clause-read c =
+    let o = mapping_told _ _ c.mapping_at.ensures (sym c.ok_or.ensures.value ∙ c.in_ok-lists.was) in
+    let passed = line_passed o c.args.in_turn c.args.v c.args.state (tables_of c.args.tables.now).prefix (lent (tables_of c.args.tables.now).map (tables_of c.args.tables.now).values c.args.noted.now) c.max-largest.ensures
+    c.roomy-room.ensures c.ranged.ensures c.in_ok-early.ensures refl in
+    let r : c.from_residual-in_err-fresh.result ≡ Err c.in_err-fresh.field-0.0 = search rules in
+    rw r (line_taken o _ _ _ _ _ passed _ c.in_err-fresh.ensures)
 
-pub returns-then-q-ne0 : goal.returns-then-q-ne0
-returns-then-q-ne0 c = let o = mapping_told _ _ c.mapping_at.ensures c.in-Lists.is in
-    let passed = line_passed o c.args.in_turn c.args.v c.args.state c.args.prefix.now
-    (lent c.args.map.now c.args.values.now c.args.noted.now) c.larger-high.ensures
-    c.roomy-room.ensures c.ranged.ensures c.early-n.ensures c.if-n-ne0.false in
-    line_unfit o _ _ _ _ _ passed c.fresh-p.ensures c.if-p-ne0.false c.annotates-q.ensures c.if-q-ne0.true
+pub returns-in_err-annotates-clause-read : goal.returns-in_err-annotates-clause-read
+returns-in_err-annotates-clause-read c =
+    let o = mapping_told _ _ c.mapping_at.ensures (sym c.ok_or.ensures.value ∙ c.in_ok-lists.was) in
+    let passed = line_passed o c.args.in_turn c.args.v c.args.state (tables_of c.args.tables.now).prefix (lent (tables_of c.args.tables.now).map (tables_of c.args.tables.now).values c.args.noted.now) c.max-largest.ensures
+    c.roomy-room.ensures c.ranged.ensures c.in_ok-early.ensures refl in
+    let r : c.from_residual-in_err-annotates.result ≡ Err c.in_err-annotates.field-0.0 = search rules in
+    rw r (line_unfit o _ _ _ _ _ passed c.in_ok-fresh.ensures _ c.in_err-annotates.ensures)
 
-pub returns-then-z-ne0 : goal.returns-then-z-ne0
-returns-then-z-ne0 c = let o = mapping_told _ _ c.mapping_at.ensures c.in-Lists.is in
-    let passed = line_passed o c.args.in_turn c.args.v c.args.state c.args.prefix.now
-    (lent c.args.map.now c.args.values.now c.args.noted.now) c.larger-high.ensures
-    c.roomy-room.ensures c.ranged.ensures c.early-n.ensures c.if-n-ne0.false in
-    absurd (c.if-z-ne0.true (line_stored o _ _ _ _ _ passed c.fresh-p.ensures c.if-p-ne0.false c.annotates-q.ensures c.if-q-ne0.false c.store-z.ensures))
+pub returns-in_err-store : goal.returns-in_err-store
+returns-in_err-store c =
+    let o = mapping_told _ _ c.mapping_at.ensures (sym c.ok_or.ensures.value ∙ c.in_ok-lists.was) in
+    let passed = line_passed o c.args.in_turn c.args.v c.args.state (tables_of c.args.tables.now).prefix (lent (tables_of c.args.tables.now).map (tables_of c.args.tables.now).values c.args.noted.now) c.max-largest.ensures
+    c.roomy-room.ensures c.ranged.ensures c.in_ok-early.ensures refl in
+    absurd (number_not_zero _ (line_stored o _ _ _ _ _ passed c.in_ok-fresh.ensures c.in_ok-annotates.ensures c.in_err-store.ensures))
 
-pub returns : goal.returns
-returns c = let o = mapping_told _ _ c.mapping_at.ensures c.in-Lists.is in
-    let passed = line_passed o c.args.in_turn c.args.v c.args.state c.args.prefix.now
-    (lent c.args.map.now c.args.values.now c.args.noted.now) c.larger-high.ensures
-    c.roomy-room.ensures c.ranged.ensures c.early-n.ensures c.if-n-ne0.false in
-    line_good o _ _ _ _ _ passed c.fresh-p.ensures c.if-p-ne0.false c.annotates-q.ensures c.if-q-ne0.false c.store-z.ensures c.larger-high.ensures c.store-z.auto.map c.store-z.auto.values
+pub returns-clause-read : goal.returns-clause-read
+returns-clause-read c =
+    let o = mapping_told _ _ c.mapping_at.ensures (sym c.ok_or.ensures.value ∙ c.in_ok-lists.was) in
+    let passed = line_passed o c.args.in_turn c.args.v c.args.state (tables_of c.args.tables.now).prefix (lent (tables_of c.args.tables.now).map (tables_of c.args.tables.now).values c.args.noted.now) c.max-largest.ensures
+    c.roomy-room.ensures c.ranged.ensures c.in_ok-early.ensures refl in
+    line_good o _ _ _ _ _ passed c.in_ok-fresh.ensures c.in_ok-annotates.ensures c.in_ok-store.ensures c.max-largest.ensures c.store.auto.map c.store.auto.values

@@ -1,31 +1,41 @@
-use mathlib.Core.Path.{ap, ◌∙◌}
-use Prim.Native.Nat.{◌-◌}
+use mathlib.Core.Path.{◌≡◌, ap, ◌∙◌}
 use native.Mathlib.Omega.{arith}
+use Prim.Native.Nat.{ℕ, ◌+◌, ◌-◌}
+use lib.ListN.{length, set, length-set}
 use Rattle.matrix.specs.Index.{index_from, index_of}
-use Rattle.matrix.proofs.IndexLaws.{turn_end, turn_on, walk_start, walk_done}
+use Rattle.matrix.proofs.IndexLaws.{noted_set, turn_end, turn_on, walk_start, walk_done}
+use Rattle.matrix.proofs.index_clauses.Goals.{then-cell-eq0, else-cell-eq0}
 use Rattle.matrix.proofs.index_clauses.Goals as goal
 
 pub loop-k-init : goal.loop-k-init
-loop-k-init c = (omega arith, omega arith, walk_start _ _ _)
-
-pub overflow_add-k : goal.overflow_add-k
-overflow_add-k c = omega arith
-
-pub overflow_add-i : goal.overflow_add-i
-overflow_add-i c = omega arith
-
-pub loop-k-smaller-then-x-eq0 : goal.loop-k-smaller-then-x-eq0
-loop-k-smaller-then-x-eq0 c = omega arith
-
-pub loop-k-preserved-then-x-eq0 : goal.loop-k-preserved-then-x-eq0
-loop-k-preserved-then-x-eq0 c = (omega arith, omega arith, turn_end _ _ _ _ _ _ c.loop-k-test.true c.loop-k.invariant.2 c.cell-x.ensures c.if-x-eq0.true c.note-then-x-eq0.ensures)
-
-pub loop-k-smaller : goal.loop-k-smaller
-loop-k-smaller c = omega arith
+unfolding index_of
+loop-k-init c = record {
+  within = omega arith;
+  long = ap (length {A = ℕ}) c.set_at.ensures ∙ length-set c.args.starts.now 0 0 ∙ c.told-starts;
+  left = walk_start _ _ _ ∙ ap (index_from c.args.matrix.now c.args.used 0 0) (c.set_at.ensures ∙ noted_set _ _ _ c.told-starts);
+}
 
 pub loop-k-preserved : goal.loop-k-preserved
-loop-k-preserved c = (omega arith, omega arith, turn_on _ _ _ _ _ _ c.loop-k-test.true c.loop-k.invariant.2 c.cell-x.ensures c.if-x-eq0.false)
+loop-k-preserved c =
+    let l = c.loop-k in
+    elim c.if-cell-eq0.branch [
+      | then-cell-eq0 w ↦
+          let s : c.if-cell-eq0.starts ≡ set l.starts (l.i + 1) (l.k + 1) = w.starts-is ∙ w.set_at-then-cell-eq0.ensures in record {
+            within = omega (arith, w.i-is, l.invariant.within);
+            long = ap (length {A = ℕ}) s ∙ length-set l.starts (l.i + 1) (l.k + 1) ∙ l.invariant.long;
+            left =
+                ap (λ i. index_from c.args.matrix.now (c.args.used - (l.k + 1)) i (l.k + 1) c.if-cell-eq0.starts) w.i-is
+                ∙ turn_end _ _ _ _ _ _ c.loop-k-test.true l.invariant.left c.cell.ensures w.if-cell-eq0.true (s ∙ noted_set _ _ _ l.invariant.long);
+          }
+      | else-cell-eq0 w ↦ record {
+        within = omega (arith, w.i-is, l.invariant.within);
+        long = ap (length {A = ℕ}) w.starts-is ∙ l.invariant.long;
+        left =
+            ap (λ i. index_from c.args.matrix.now (c.args.used - (l.k + 1)) i (l.k + 1) c.if-cell-eq0.starts) w.i-is
+            ∙ ap (index_from c.args.matrix.now (c.args.used - (l.k + 1)) l.i (l.k + 1)) w.starts-is
+            ∙ turn_on _ _ _ _ _ _ c.loop-k-test.true l.invariant.left c.cell.ensures w.if-cell-eq0.false;
+      }
+    ]
 
 pub returns : goal.returns
-unfolding index_of
-returns c = walk_done _ _ _ _ _ _ c.loop-k-test.false c.loop-k.invariant.2 ∙ ap (index_from _ _ 0 0) c.note.ensures
+returns c = walk_done _ _ _ _ _ _ c.loop-k-test.false c.loop-k.invariant.left

@@ -1,5 +1,5 @@
-use Rattle.propagation.specs.Answers.{Turned}
 use Rattle.propagation.proofs.MoveLaws.{moved_refl}
+use Rattle.propagation.proofs.AnswerLaws.{turned_some}
 use Rattle.propagation.proofs.ClauseLaws.{judge_conflict, judge_unit}
 use Rattle.propagation.proofs.judge.Goals as goal
 
@@ -10,13 +10,10 @@ pub returns-in-Unit : goal.returns-in-Unit
 returns-in-Unit c = λ r h. judge_unit _ _ _ _ h c.stands.ensures c.if-stands.true _ c.clause.ensures _ r c.seek.ensures c.in-Unit.is c.make_true.ensures
 
 pub returns-in-Open : goal.returns-in-Open
-unfolding Turned
-returns-in-Open c = λ r h. moved_refl _ _ _ _ r
+returns-in-Open c = λ r h. turned_some _ (moved_refl _ _ _ _ r)
 
 pub returns-then-o-eq1 : goal.returns-then-o-eq1
-unfolding Turned
-returns-then-o-eq1 c = λ r h. moved_refl _ _ _ _ r
+returns-then-o-eq1 c = λ r h. turned_some _ (moved_refl _ _ _ _ r)
 
 pub returns : goal.returns
-unfolding Turned
-returns c = λ r h. moved_refl _ _ _ _ r
+returns c = λ r h. turned_some _ (moved_refl _ _ _ _ r)

@@ -1,11 +1,8 @@
-use Prim.Native.Nat.{◌+◌, ◌≤◌}
-use Rattle.clauses.specs.Standing.{standing}
-use Rattle.trail.specs.Trail.{Ready}
-use Rattle.propagation.specs.Answers.{Good, Moved}
+use Prim.Native.Nat.{◌≤◌}
+use Rattle.clauses.specs.Standing.{standing_of}
+use Rattle.trail.specs.Trail.{ReadyIn}
+use Rattle.propagation.specs.Answers.{Good, MovedIn}
 use Rattle.propagation.proofs.propagate.Given as goal
 
-abbrev pub invariant-loop-steps : goal.invariant-loop-steps
-invariant-loop-steps l = Ready l.initial.falses l.initial.trail l.from → Moved (Good (standing l.table l.marks l.count)) l.initial.falses l.initial.trail l.from l.falses l.trail l.n × (65536 ≤ l.n + l.steps)
-
-abbrev pub decreases-loop-steps : goal.decreases-loop-steps
-decreases-loop-steps l = l.steps
+abbrev pub invariant-loop : goal.invariant-loop
+invariant-loop l = ReadyIn l.initial.trail → MovedIn (Good (standing_of l.standing)) l.initial.trail l.trail × (l.counter ≤ l.trail.length)

@@ -1,36 +1,23 @@
 use native.Mathlib.Omega.{arith}
-use Rattle.propagation.specs.Answers.{Visited}
-use Rattle.propagation.proofs.MoveLaws.{moved_refl}
-use Rattle.propagation.proofs.AnswerLaws.{turned_clash, turned_moved, moved_on, clash_on}
+use Rattle.propagation.proofs.AnswerLaws.{turned_clash, turned_moved, moved_on, moved_as, clash_on, visited_stable}
 use Rattle.propagation.proofs.walk.Goals as goal
+use Rattle.propagation.proofs.walk.Goals.{then-seems_true, else-seems_true+in-Some}
 
-pub loop-steps-init : goal.loop-steps-init
-loop-steps-init c = λ r. moved_refl _ _ _ _ r
+pub returns-then-standing-k : goal.returns-then-standing-k
+returns-then-standing-k c = λ r. visited_stable (c.loop.invariant r)
 
-pub returns-then-count-k : goal.returns-then-count-k
-unfolding Visited
-returns-then-count-k c = c.loop-steps.invariant
-
-pub loop-steps-smaller-then-seems_true : goal.loop-steps-smaller-then-seems_true
-loop-steps-smaller-then-seems_true c = omega (arith, c.loop-steps-test.true)
-
-pub loop-steps-preserved-then-seems_true : goal.loop-steps-preserved-then-seems_true
-loop-steps-preserved-then-seems_true c = c.loop-steps.invariant
-
-pub returns-in-Conflict : goal.returns-in-Conflict
-returns-in-Conflict c = λ r.
-    let m = c.loop-steps.invariant r in
-    let j = turned_clash c.in-Conflict.is (c.judge.ensures m.ready (omega (arith, c.if-count-k.false))) in
+pub returns-in_default : goal.returns-in_default
+returns-in_default c = λ r.
+    let m = c.loop.invariant r in
+    let j = turned_clash c.in_default.is (c.judge.ensures m.ready (omega arith)) in
     clash_on m j.0 j.1
 
-pub loop-steps-smaller : goal.loop-steps-smaller
-loop-steps-smaller c = omega (arith, c.loop-steps-test.true)
-
-pub loop-steps-preserved : goal.loop-steps-preserved
-loop-steps-preserved c = λ r.
-    let m = c.loop-steps.invariant r in
-    moved_on m (turned_moved c.in-Watch.is (c.judge.ensures m.ready (omega (arith, c.if-count-k.false))))
+pub loop-preserved : goal.loop-preserved
+loop-preserved c = λ r. elim c.if-seems_true.branch [
+  | then-seems_true w ↦ moved_as w.trail-is (c.loop.invariant r)
+  | else-seems_true+in-Some w ↦ let m = c.loop.invariant r in
+      moved_as w.trail-is (moved_on m (turned_moved w.in-Some.is (w.judge.ensures m.ready (omega arith))))
+]
 
 pub returns : goal.returns
-unfolding Visited
-returns c = c.loop-steps.invariant
+returns c = λ r. visited_stable (c.loop.invariant r)

@@ -1,30 +1,37 @@
+use native.Mathlib.Omega.{arith}
+use mathlib.Core.Path.{◌≡◌, subst}
+use Prim.Native.Nat.{ℕ, ◌≤◌}
+use Rattle.trail.specs.declared.Trail.{Trail}
+use Rattle.trail.specs.Trail.{TrailedIn, UndoneIn}
 use Rattle.propagation.proofs.AnswerLaws.{visited_moved}
-use Rattle.redundancy.proofs.DenyLaws.{refuted_clash, refuted_good}
-use Rattle.redundancy.proofs.AdditionLaws.{added_closed, added_rup, rat_asked, added_rat, added_no}
+use Rattle.redundancy.proofs.AdditionLaws.{added_closed, added_rup, added_moved, rat_asked, added_rat, added_no}
 use Rattle.redundancy.proofs.add.Goals as goal
+use Rattle.redundancy.proofs.add.Goals.{in-Stable-refute+else-not-is_rat, in_default-refute}
 
-pub returns-then-is_rat : goal.returns-then-is_rat
-returns-then-is_rat c = λ h.
+-- the trail that is cut back, by another name
+undone_as : {a a' : Trail} {n : ℕ} {b : Trail} → a ≡ a' → (TrailedIn a → (n ≤ a.length) → UndoneIn a n b) → TrailedIn a' → (n ≤ a'.length) → UndoneIn a' n b
+undone_as {a} {a'} {n} {b} e u = subst (λ (x : Trail). TrailedIn x → (n ≤ x.length) → UndoneIn x n b) e u
+
+pub returns-in_default : goal.returns-in_default
+returns-in_default c = λ h. added_closed _ _ h _ _ _ _ c.in_default.is (c.ground.ensures h.ready)
+
+pub returns-then-not-is_rat : goal.returns-then-not-is_rat
+returns-then-not-is_rat c = λ h.
     let g = c.ground.ensures h.ready in
-    let f = c.refute.ensures (visited_moved c.in-Go.is g).ready in
-    let asked = rat_asked _ _ h _ _ c.in-Go.is g _ c.none.ensures _ _ _ f c.in-Stable.is in
-    let t = c.is_rat.ensures asked.0 asked.1 in
-    let v = refuted_good _ c.in-Stable.is f in
-    added_rat _ _ h _ _ c.in-Go.is g _ c.none.ensures _ _ _ f c.in-Stable.is t _ (c.undo-then-is_rat.ensures t.0.ready.trailed v.0.up) c.if-is_rat.true
+    let f = c.refute.ensures (visited_moved c.in-Stable.is g).ready in
+    let asked = rat_asked _ _ h _ _ _ c.in-Stable.is g _ c.none.ensures _ _ _ _ f c.in-Stable-refute.is in
+    added_no _ _ h _ _ _ c.in-Stable.is g _ c.none.ensures _ _ _ _ f c.in-Stable-refute.is (c.is_rat.ensures asked.0 asked.1) c.if-not-is_rat.true
 
-pub returns-in-Conflict : goal.returns-in-Conflict
-returns-in-Conflict c = λ h. added_closed _ _ h _ _ _ c.in-Conflict.is (c.ground.ensures h.ready)
-
-pub returns-in-Conflict-refute : goal.returns-in-Conflict-refute
-returns-in-Conflict-refute c = λ h.
+pub returns : goal.returns
+returns c = λ h.
     let g = c.ground.ensures h.ready in
-    let f = c.refute.ensures (visited_moved c.in-Go.is g).ready in
-    let v = refuted_clash _ c.in-Conflict-refute.is f in
-    added_rup _ _ h _ _ c.in-Go.is g _ c.none.ensures _ _ _ f _ c.in-Conflict-refute.is (c.undo.ensures v.0.ready.trailed v.0.up)
-
-pub returns-else-is_rat : goal.returns-else-is_rat
-returns-else-is_rat c = λ h.
-    let g = c.ground.ensures h.ready in
-    let f = c.refute.ensures (visited_moved c.in-Go.is g).ready in
-    let asked = rat_asked _ _ h _ _ c.in-Go.is g _ c.none.ensures _ _ _ f c.in-Stable.is in
-    added_no _ _ h _ _ c.in-Go.is g _ c.none.ensures _ _ _ f c.in-Stable.is (c.is_rat.ensures asked.0 asked.1) c.if-is_rat.false
+    let f = c.refute.ensures (visited_moved c.in-Stable.is g).ready in
+    elim c.match-refute.branch [
+      | in-Stable-refute+else-not-is_rat w ↦
+          let asked = rat_asked _ _ h _ _ _ c.in-Stable.is g _ c.none.ensures _ _ _ _ f w.in-Stable-refute.is in
+          let t = w.is_rat.ensures asked.0 asked.1 in
+          added_rat _ _ h _ _ _ c.in-Stable.is g _ c.none.ensures _ _ _ _ f w.in-Stable-refute.is t _ (undone_as w.trail-is c.undo.ensures.undone t.0.ready.trailed (omega (arith, t.0.same, asked.2))) w.if-not-is_rat.false
+      | in_default-refute w ↦
+          let m = added_moved _ _ h _ _ _ c.in-Stable.is g _ c.none.ensures _ _ _ _ f w.in_default-refute.is in
+          added_rup _ _ h _ _ _ c.in-Stable.is g _ c.none.ensures _ _ _ _ f _ w.in_default-refute.is (undone_as w.trail-is c.undo.ensures.undone m.ready.trailed m.up)
+    ]

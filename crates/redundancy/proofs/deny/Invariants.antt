@@ -1,11 +1,8 @@
-use Rattle.clauses.specs.Standing.{literals_from, left}
-use Rattle.trail.specs.Trail.{Ready}
+use Rattle.cells.specs.Codes.{codes_left}
+use Rattle.trail.specs.Trail.{ReadyIn}
 use Rattle.redundancy.specs.Additions.{less_code}
 use Rattle.redundancy.proofs.DenyLaws.{Denying}
 use Rattle.redundancy.proofs.deny.Given as goal
 
-abbrev pub invariant-loop-i : goal.invariant-loop-i
-invariant-loop-i l = Ready l.initial.falses l.initial.trail l.from → Denying (less_code l.skip (literals_from l.table l.initial.i)) (less_code l.skip (literals_from l.table l.i)) l.initial.falses l.initial.trail l.from l.falses l.trail l.n
-
-abbrev pub decreases-loop-i : goal.decreases-loop-i
-decreases-loop-i l = left l.table l.i
+abbrev pub invariant-loop-l : goal.invariant-loop-l
+invariant-loop-l l = ReadyIn l.initial.trail → Denying (less_code l.skip (codes_left l.fn.clause)) (less_code l.skip (codes_left l.l-iterator)) l.initial.trail.falses l.initial.trail.literals l.initial.trail.length l.trail.falses l.trail.literals l.trail.length

@@ -2,10 +2,6 @@ use native.Mathlib.Omega.{arith}
 use Rattle.report.proofs.FieldsLaw.{six_long, word_short, rendered}
 use Rattle.report.proofs.put_line.Goals as goal
 
-pub put_fields-k-requires : goal.put_fields-k-requires
-put_fields-k-requires c = let w = c.put_word-w.ensures in
-    omega (arith, w.next, w.same, word_short c.args.r.verdict, six_long _ c.numbers-fields.ensures)
-
 pub put_byte-requires : goal.put_byte-requires
 put_byte-requires c = let w = c.put_word-w.ensures in
     let k = c.put_fields-k.ensures in

@@ -1,18 +1,18 @@
-use mathlib.Core.Path.{refl, sym, ◌∙◌}
-use Rattle.clauses.proofs.CursorLaws.{read_end, read_more, read_less}
-use Rattle.resolvents.specs.Marks.{to}
+use mathlib.Core.Path.{refl, sym, ap, ◌∙◌}
+use Rattle.cells.specs.Codes.{codes_left}
+use Rattle.cells.proofs.Laws.{first_code}
+use Rattle.resolvents.specs.Marks.{each, to}
 use Rattle.resolvents.proofs.WalkLaws.{each_end, each_more}
 use Rattle.resolvents.proofs.mark.Goals as goal
 
-pub loop-i-init : goal.loop-i-init
-loop-i-init c = refl
+pub loop-y-init : goal.loop-y-init
+loop-y-init c = ap (λ ys. each (to 1) ys c.args.seen.now) (ap codes_left c.into_iter-y-iterator.ensures.into_iter_gives)
 
-pub returns-then-y-eq0 : goal.returns-then-y-eq0
-returns-then-y-eq0 c = sym (each_end _ (read_end _ _ _ c.literal-y.ensures.0 c.if-y-eq0.true) _ _) ∙ c.loop-i.invariant
+pub bounds-seen-y : goal.bounds-seen-y
+bounds-seen-y c = (first_code _ _ _ _ c.in-Some.ensures.steps).2
 
-pub loop-i-smaller : goal.loop-i-smaller
-loop-i-smaller c = read_less _ _ _ c.literal-y.ensures.0 c.if-y-eq0.false c.after-i.ensures
+pub loop-y-preserved : goal.loop-y-preserved
+loop-y-preserved c = each_more _ _ _ c.in-Some.ensures.steps _ _ refl (to 1) _ refl ∙ c.loop-y.invariant
 
-pub loop-i-preserved : goal.loop-i-preserved
-loop-i-preserved c = each_more _ _ _ (read_more _ _ _ c.literal-y.ensures.0 c.if-y-eq0.false c.after-i.ensures) _ _ c.wide.ensures.0 (to 1) _ refl
-    ∙ c.loop-i.invariant
+pub returns : goal.returns
+returns c = sym (each_end _ c.in-None.ensures.steps.0 _ _) ∙ c.loop-y.invariant

@@ -4,7 +4,7 @@ use Rattle.resolvents.proofs.may_leave.Goals as goal
 
 pub returns-then-p-eq0 : goal.returns-then-p-eq0
 unfolding may_leave in_all
-returns-then-p-eq0 c = rw (eq-eqb _ 0 c.if-p-eq0.true, c.wide.ensures.0)
+returns-then-p-eq0 c = rw (eq-eqb _ 0 c.if-p-eq0.true)
 
 pub returns : goal.returns
 unfolding may_leave

@@ -1,22 +1,26 @@
-use mathlib.Core.Path.{refl, sym, ◌∙◌}
-use Rattle.clauses.proofs.CursorLaws.{read_end, read_more, read_less}
-use Rattle.resolvents.specs.Marks.{to}
+use mathlib.Core.Path.{refl, sym, ap, ◌∙◌}
+use Rattle.cells.specs.Codes.{codes_left}
+use Rattle.cells.proofs.Laws.{first_code}
+use Rattle.resolvents.specs.Marks.{each, to, covered}
 use Rattle.resolvents.proofs.WalkLaws.{each_end, each_more, covered_end, covered_more}
 use Rattle.resolvents.proofs.unmark.Goals as goal
 
-pub loop-i-init : goal.loop-i-init
-loop-i-init c = (refl, refl)
+pub loop-y-init : goal.loop-y-init
+loop-y-init c = let e = ap codes_left c.into_iter-y-iterator.ensures.into_iter_gives in
+    (ap (covered c.args.seen.now) e, ap (λ ys. each (to 0) ys c.args.seen.now) e)
 
-pub returns-then-y-eq0 : goal.returns-then-y-eq0
-returns-then-y-eq0 c = let e = read_end _ _ _ c.literal-y.ensures.0 c.if-y-eq0.true in
-    let h = c.loop-i.invariant in
+pub bounds-seen-k : goal.bounds-seen-k
+bounds-seen-k c = (first_code _ _ _ _ c.in-Some.ensures.steps).2
+
+pub loop-y-preserved : goal.loop-y-preserved
+loop-y-preserved c = let l = c.loop-y in
+    let e = c.in-Some.ensures.steps in
+    (covered_more _ _ _ e l.seen _ refl l.all ∙ l.invariant.0, each_more _ _ _ e _ _ refl (to 0) _ refl ∙ l.invariant.1)
+
+pub returns : goal.returns
+returns c = let e = c.in-None.ensures.steps.0 in
+    let h = c.loop-y.invariant in
     (sym (covered_end _ e _ _) ∙ h.0, sym (each_end _ e _ _) ∙ h.1)
 
-pub loop-i-smaller : goal.loop-i-smaller
-loop-i-smaller c = read_less _ _ _ c.literal-y.ensures.0 c.if-y-eq0.false c.after-i.ensures
-
-pub loop-i-preserved : goal.loop-i-preserved
-loop-i-preserved c = let l = c.loop-i in
-    let e = read_more _ _ _ c.literal-y.ensures.0 c.if-y-eq0.false c.after-i.ensures in
-    let q = c.wide-k.ensures.0 in
-    (covered_more _ _ _ e l.seen _ q l.all ∙ l.invariant.0, each_more _ _ _ e _ _ q (to 0) _ refl ∙ l.invariant.1)
+pub bounds-seen-k-in-loop-y : goal.bounds-seen-k-in-loop-y
+bounds-seen-k-in-loop-y c = (first_code _ _ _ _ c.in-Some.ensures.steps).2

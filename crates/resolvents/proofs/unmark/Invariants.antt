@@ -1,12 +1,9 @@
 use mathlib.Core.Path.{◌≡◌}
+use Rattle.cells.specs.Codes.{codes_left}
 use mathlib.Core.Bool.{◌&&◌}
-use Rattle.clauses.specs.Standing.{literals_from, left}
 use Rattle.resolvents.specs.Marks.{each, to, covered}
 use Rattle.resolvents.proofs.unmark.Given as goal
 
-abbrev pub invariant-loop-i : goal.invariant-loop-i
-invariant-loop-i l = ((l.all && covered l.seen (literals_from l.table l.i)) ≡ covered l.initial.seen (literals_from l.table l.initial.i))
-    × (each (to 0) (literals_from l.table l.i) l.seen ≡ each (to 0) (literals_from l.table l.initial.i) l.initial.seen)
-
-abbrev pub decreases-loop-i : goal.decreases-loop-i
-decreases-loop-i l = left l.table l.i
+abbrev pub invariant-loop-y : goal.invariant-loop-y
+invariant-loop-y l = ((l.all && covered l.seen (codes_left l.y-iterator)) ≡ covered l.initial.seen (codes_left l.fn.clause))
+    × (each (to 0) (codes_left l.y-iterator) l.seen ≡ each (to 0) (codes_left l.fn.clause) l.initial.seen)

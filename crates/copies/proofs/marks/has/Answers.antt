@@ -1,24 +1,12 @@
-use mathlib.Core.Path.{refl, sym, ◌∙◌}
-use native.Mathlib.Omega.{arith}
-use borrow.Author.Tests.{eq-eqb, ne_eqb}
-use Prim.Native.Nat.{◌-◌}
-use Rattle.copies.proofs.Walks.{inside, in_stop, in_next, in_found}
+use Rattle.std.proofs.Common.{rules, tests, ◌∙◌}
+use Rattle.std.proofs.lemmas.Iterator.Search.{any_from_yields_List}
+use Rattle.std.proofs.lemmas.Iterator.Consumers.{YieldsList-from_first}
+use lib.Dec.{eqb}
+use Rattle.cells.specs.Codes.{codes_left}
+use Rattle.copies.proofs.Members.{any_listed}
 use Rattle.copies.proofs.marks.has.Goals as goal
 
-pub loop-a-init : goal.loop-a-init
-loop-a-init c = refl
-
-pub returns-then-x-eq0 : goal.returns-then-x-eq0
-returns-then-x-eq0 c = sym (c.loop-a.invariant ∙ in_stop _ _ c.code-x.ensures.0 _ c.if-x-eq0.true)
-
-pub returns-then-y-x : goal.returns-then-y-x
-returns-then-y-x c = sym (c.loop-a.invariant ∙ in_found _ _ c.code-x.ensures.0 _ c.if-x-eq0.false (eq-eqb _ _ c.if-y-x.true))
-
-pub overflow_add-i : goal.overflow_add-i
-overflow_add-i c = let h = inside _ _ c.code-x.ensures.0 c.if-x-eq0.false in omega arith
-
-pub loop-a-smaller : goal.loop-a-smaller
-loop-a-smaller c = let h = inside _ _ c.code-x.ensures.0 c.if-x-eq0.false in omega arith
-
-pub loop-a-preserved : goal.loop-a-preserved
-loop-a-preserved c = c.loop-a.invariant ∙ in_next _ _ c.code-x.ensures.0 _ c.if-x-eq0.false (ne_eqb _ _ c.if-y-x.false)
+pub returns : goal.returns
+returns c =
+    any_from_yields_List (eqb c.args.y) c.any.new.self _ _ c.any.ensures.ran (YieldsList-from_first (λ x. x) codes_left {s = c.new.result} _ c.new.ensures.left) (λ x b q k. search (rules, tests))
+    ∙ any_listed (eqb c.args.y) _

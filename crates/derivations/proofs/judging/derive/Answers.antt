@@ -1,11 +1,14 @@
+use Rattle.std.proofs.lemmas.Result.{err_from_is_err_and}
 use Rattle.derivations.proofs.JudgeLaws.{index_used, rule_refused, line_stands}
 use Rattle.derivations.proofs.judging.derive.Goals as goal
 
-pub returns-then-place_of-ne0 : goal.returns-then-place_of-ne0
-returns-then-place_of-ne0 c = λ h. index_used _ _ _ _ _ _ _ c.place_of.ensures c.if-place_of-ne0.true
+pub returns-then-is_some-clause-judged : goal.returns-then-is_some-clause-judged
+returns-then-is_some-clause-judged c = index_used _ _ _ _ c.place_of.ensures c.is_some.ensures c.if-is_some.true
 
-pub returns-then-k-ne0 : goal.returns-then-k-ne0
-returns-then-k-ne0 c = λ h. rule_refused _ _ _ _ _ _ _ c.place_of.ensures c.if-place_of-ne0.false (c.rule_broken-k.ensures h) c.if-k-ne0.true
+pub returns-in_err-rule_broken-clause-judged : goal.returns-in_err-rule_broken-clause-judged
+returns-in_err-rule_broken-clause-judged c =
+    let e = err_from_is_err_and c.from_residual.result c.from_residual.ensures.1 in
+    rw (e.1, e.2) (rule_refused _ _ _ _ c.place_of.ensures c.is_some.ensures c.if-is_some.false _ c.rule_broken.new.work c.rule_broken.ensures.broken c.in_err-rule_broken.was)
 
-pub returns : goal.returns
-returns c = λ h. line_stands _ _ _ _ _ _ _ c.place_of.ensures c.if-place_of-ne0.false (c.rule_broken-k.ensures h) c.if-k-ne0.false c.stand.ensures
+pub returns-clause-judged : goal.returns-clause-judged
+returns-clause-judged c = line_stands _ _ _ _ c.place_of.ensures c.is_some.ensures c.if-is_some.false _ c.rule_broken.new.work c.rule_broken.ensures.broken c.rule_broken.ensures.rest c.in_ok-rule_broken.was c.stand.ensures

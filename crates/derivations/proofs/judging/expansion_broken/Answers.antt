@@ -1,12 +1,13 @@
 use Rattle.derivations.proofs.CodeLaws.{clear_unmarked, unmarked_clear, unmapped_copy, expansion_is, no_expansion}
 use native.Mathlib.Omega.{arith}
+use Rattle.tables.specs.Lent.{tables_of}
 use Rattle.derivations.proofs.judging.expansion_broken.Goals as goal
 
-pub returns-then-expands_named : goal.returns-then-expands_named
-returns-then-expands_named c = λ h s. let x = c.expands_named.ensures (clear_unmarked s) h in (expansion_is _ _ _ _ c.pending.ensures c.all_mapped.ensures c.if-all_mapped.true c.written-l.ensures c.wide.ensures.0 x.0 c.if-expands_named.true, unmarked_clear (omega (arith, c.expands_named.auto)) s x.1)
+pub returns-then-not-all_mapped-clause-broken : goal.returns-then-not-all_mapped-clause-broken
+returns-then-not-all_mapped-clause-broken c = λ s. (unmapped_copy _ _ (tables_of c.args.tables.now) c.args.work.now c.pending.ensures c.all_mapped.ensures c.if-not-all_mapped.true, s)
 
-pub returns-then-all_mapped : goal.returns-then-all_mapped
-returns-then-all_mapped c = λ h s. let x = c.expands_named.ensures (clear_unmarked s) h in (no_expansion _ _ _ _ c.pending.ensures c.all_mapped.ensures c.if-all_mapped.true c.written-l.ensures c.wide.ensures.0 x.0 c.if-expands_named.false, unmarked_clear (omega (arith, c.expands_named.auto)) s x.1)
+pub returns-then-not-expands_named-clause-broken : goal.returns-then-not-expands_named-clause-broken
+returns-then-not-expands_named-clause-broken c = λ s. let x = c.expands_named.ensures (clear_unmarked s) (omega arith) in (no_expansion _ _ (tables_of c.args.tables.now) c.args.work.now c.pending.ensures c.all_mapped.ensures c.if-not-all_mapped.false c.written.ensures x.0 c.if-not-expands_named.true, unmarked_clear (omega (arith, c.expands_named.auto)) s x.1)
 
-pub returns : goal.returns
-returns c = λ h s. (unmapped_copy _ _ _ _ c.pending.ensures c.all_mapped.ensures c.if-all_mapped.false, s)
+pub returns-clause-broken : goal.returns-clause-broken
+returns-clause-broken c = λ s. let x = c.expands_named.ensures (clear_unmarked s) (omega arith) in (expansion_is _ _ (tables_of c.args.tables.now) c.args.work.now c.pending.ensures c.all_mapped.ensures c.if-not-all_mapped.false c.written.ensures x.0 c.if-not-expands_named.false, unmarked_clear (omega (arith, c.expands_named.auto)) s x.1)

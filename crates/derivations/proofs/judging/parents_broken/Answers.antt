@@ -1,16 +1,22 @@
 use Rattle.derivations.proofs.CodeLaws.{first_missing, second_missing, parents_judged}
+use Rattle.std.proofs.lemmas.Result.{err_from_is_err_and}
 use mathlib.Core.Path.{refl}
 use Rattle.copies.proofs.Choices.{yes, no}
+use Rattle.tables.specs.Lent.{tables_of}
 use Rattle.derivations.proofs.judging.parents_broken.Goals as goal
 
-pub returns-then-i-eq0 : goal.returns-then-i-eq0
-returns-then-i-eq0 c = λ s. (first_missing _ _ _ _ _ _ c.place_of-i.ensures c.place_of-j.ensures c.if-i-eq0.true, s)
+pub returns-in_err-i-clause-broken : goal.returns-in_err-i-clause-broken
+returns-in_err-i-clause-broken c =
+    let e = err_from_is_err_and c.from_residual.result c.from_residual.ensures.1 in
+    rw (e.1, e.2) (λ s. (first_missing _ _ _ (tables_of c.args.tables.now) c.args.work.now c.place_of.ensures c.in_err-i.ensures.value c.in_err-i.ensures.ok_part, s))
 
-pub returns-then-j-eq0 : goal.returns-then-j-eq0
-returns-then-j-eq0 c = λ s. (second_missing _ _ _ _ _ _ c.place_of-i.ensures c.place_of-j.ensures c.if-i-eq0.false c.if-j-eq0.true, s)
+pub returns-in_err-j-clause-broken : goal.returns-in_err-j-clause-broken
+returns-in_err-j-clause-broken c =
+    let e = err_from_is_err_and c.from_residual-in_err-j.result c.from_residual-in_err-j.ensures.1 in
+    rw (e.1, e.2) (λ s. (second_missing _ _ _ (tables_of c.args.tables.now) c.args.work.now c.place_of.ensures c.in_ok-i.ensures.ok_part c.place_of-2.ensures c.in_err-j.ensures.value c.in_err-j.ensures.ok_part, s))
 
-pub returns-then-resolves : goal.returns-then-resolves
-returns-then-resolves c = parents_judged _ _ _ _ _ _ c.place_of-i.ensures c.place_of-j.ensures c.if-i-eq0.false c.if-j-eq0.false _ _ c.pending.ensures c.wide.ensures.0 c.wide-2.ensures.0 c.clause-d.ensures c.clause-e.ensures c.resolves.ensures (yes _ _ _ c.if-resolves.true refl)
+pub returns-then-not-resolves-clause-broken : goal.returns-then-not-resolves-clause-broken
+returns-then-not-resolves-clause-broken c = parents_judged _ _ _ (tables_of c.args.tables.now) c.args.work.now c.place_of.ensures c.in_ok-i.ensures.ok_part c.place_of-2.ensures c.in_ok-j.ensures.ok_part c.pending.ensures c.clause-d.ensures c.clause-e.ensures c.resolves.ensures (no _ _ _ c.if-not-resolves.true refl)
 
-pub returns : goal.returns
-returns c = parents_judged _ _ _ _ _ _ c.place_of-i.ensures c.place_of-j.ensures c.if-i-eq0.false c.if-j-eq0.false _ _ c.pending.ensures c.wide.ensures.0 c.wide-2.ensures.0 c.clause-d.ensures c.clause-e.ensures c.resolves.ensures (no _ _ _ c.if-resolves.false refl)
+pub returns-clause-broken : goal.returns-clause-broken
+returns-clause-broken c = parents_judged _ _ _ (tables_of c.args.tables.now) c.args.work.now c.place_of.ensures c.in_ok-i.ensures.ok_part c.place_of-2.ensures c.in_ok-j.ensures.ok_part c.pending.ensures c.clause-d.ensures c.clause-e.ensures c.resolves.ensures (yes _ _ _ c.if-not-resolves.false refl)

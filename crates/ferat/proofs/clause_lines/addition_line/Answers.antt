@@ -1,18 +1,25 @@
-use mathlib.Core.Path.{sym, ◌∙◌}
+use Rattle.std.proofs.Common.{◌≡◌, sym, ◌∙◌, Err, rules}
 use Rattle.lists.proofs.FormLaws.{clause_ended}
-use Rattle.ferat.specs.Lines.{with_three}
-use Rattle.ferat.proofs.ClauseLaws.{additions, addition_turn, clause_bad, clause_limited, clause_judged}
+use Rattle.ferat.proofs.ClauseLaws.{asked_some, asked_none, additions, addition_turn, clause_bad, clause_limited, clause_judged}
 use Rattle.ferat.proofs.clause_lines.addition_line.Goals as goal
 
-pub returns-in_default : goal.returns-in_default
-returns-in_default c = λ t w. clause_bad additions _ _ _ _ _ (sym c.clause_at.ensures ∙ c.in_default.is) _
+pub returns-in_err-measure-clause-read : goal.returns-in_err-measure-clause-read
+returns-in_err-measure-clause-read c =
+    let r : c.from_residual.result ≡ Err c.in_err-measure.field-0.0 = search rules in
+    let h = asked_none _ (sym c.ok_or.ensures.value ∙ c.in_err-measure.was) in
+    rw (r, h.0) (clause_bad additions _ _ _ _ _ (sym c.clause_at.ensures ∙ h.1) _)
 
-pub returns-then-k-ne0 : goal.returns-then-k-ne0
-returns-then-k-ne0 c = λ t w. clause_limited additions _ _ _ _ _ (sym c.clause_at.ensures ∙ c.in-Good.is) (λ f s sh. addition_turn s _) c.limit_broken-k.ensures c.if-k-ne0.true _
+pub returns-in_err-limit_broken-clause-read : goal.returns-in_err-limit_broken-clause-read
+returns-in_err-limit_broken-clause-read c =
+    let r : c.from_residual-in_err-limit_broken.result ≡ Err c.in_err-limit_broken.field-0.0 = search rules in
+    rw r (clause_limited additions _ _ _ _ _ (sym c.clause_at.ensures ∙ asked_some _ (sym c.ok_or.ensures.value ∙ c.in_ok-measure.was))
+    (λ f s sh. addition_turn s _) c.in_err-limit_broken.ensures _)
 
-pub returns-in_default-store_line : goal.returns-in_default-store_line
-returns-in_default-store_line c = λ t w. absurd (clause_ended _ _ (sym c.clause_at.ensures ∙ c.in-Good.is) c.store_line.ensures.1 c.in_default-store_line.is)
+pub returns-in_err-store_line-clause-read : goal.returns-in_err-store_line-clause-read
+returns-in_err-store_line-clause-read c =
+    absurd (clause_ended _ _ (sym c.clause_at.ensures ∙ asked_some _ (sym c.ok_or.ensures.value ∙ c.in_ok-measure.was)) c.store_line.ensures.1 c.in_err-store_line.was)
 
-pub returns : goal.returns
-returns c = let a = c.args in
-    λ t w. clause_judged additions _ _ _ _ _ (sym c.clause_at.ensures ∙ c.in-Good.is) (λ f s sh. addition_turn s _) c.limit_broken-k.ensures c.if-k-ne0.false _ c.store_line.ensures.0 (c.add.ensures (with_three t a.proof.now a.marks.now a.values.now) w)
+pub returns-clause-read : goal.returns-clause-read
+returns-clause-read c =
+    clause_judged additions _ _ _ _ _ (sym c.clause_at.ensures ∙ asked_some _ (sym c.ok_or.ensures.value ∙ c.in_ok-measure.was))
+    (λ f s sh. addition_turn s _) c.in_ok-limit_broken.ensures _ c.store_line.ensures.0 c.add.ensures.answer

@@ -1,17 +1,25 @@
-use mathlib.Core.Path.{sym, ◌∙◌}
+use Rattle.std.proofs.Common.{◌≡◌, sym, ◌∙◌, Err, rules}
 use Rattle.rules.proofs.Kit.{clear}
 use Rattle.lists.proofs.FormLaws.{clause_list}
-use Rattle.ferat.proofs.DeletionLaws.{deletion_bad, deletion_high, deletion_judged, listed_all}
+use Rattle.ferat.proofs.ClauseLaws.{asked_some, asked_none}
+use Rattle.ferat.proofs.DeletionLaws.{deletion_bad, deletion_high, deletion_judged}
 use Rattle.ferat.proofs.deletion_lines.deletion_line.Goals as goal
 
-pub returns-in_default : goal.returns-in_default
-returns-in_default c = λ t w. deletion_bad _ _ _ _ _ (sym c.clause_at.ensures ∙ c.in_default.is) _
+pub returns-in_err-measure-clause-read : goal.returns-in_err-measure-clause-read
+returns-in_err-measure-clause-read c =
+    let r : c.from_residual.result ≡ Err c.in_err-measure.field-0.0 = search rules in
+    let h = asked_none _ (sym c.ok_or.ensures.value ∙ c.in_err-measure.was) in
+    rw (r, h.0) (deletion_bad _ _ _ _ _ (sym c.clause_at.ensures ∙ h.1) _)
 
-pub returns-then-m-gt16384 : goal.returns-then-m-gt16384
-returns-then-m-gt16384 c = λ t w. deletion_high _ _ _ _ _ (sym c.clause_at.ensures ∙ c.in-Good.is) c.if-m-gt16384.true _
+pub returns-then-measure-gt-COPIES-clause-read : goal.returns-then-measure-gt-COPIES-clause-read
+returns-then-measure-gt-COPIES-clause-read c =
+    deletion_high _ _ _ _ _ (sym c.clause_at.ensures ∙ asked_some _ (sym c.ok_or.ensures.value ∙ c.in_ok-measure.was)) c.if-measure-gt-COPIES.true _
 
-pub returns-in_default-list_line : goal.returns-in_default-list_line
-returns-in_default-list_line c = λ t w. absurd (clear (clause_list _ _ (sym c.clause_at.ensures ∙ c.in-Good.is)) (c.list_line.ensures.1 c.in_default-list_line.is))
+pub returns-then-not-list_line-clause-read : goal.returns-then-not-list_line-clause-read
+returns-then-not-list_line-clause-read c =
+    absurd (clear (clause_list _ _ (sym c.clause_at.ensures ∙ asked_some _ (sym c.ok_or.ensures.value ∙ c.in_ok-measure.was))) (c.list_line.ensures.bad c.if-not-list_line.true))
 
-pub returns : goal.returns
-returns c = λ t w. deletion_judged _ _ _ _ _ (sym c.clause_at.ensures ∙ c.in-Good.is) c.if-m-gt16384.false c.undo.ensures (λ h. listed_all _ _ c.in-All.is (c.list_line.ensures.0 h)) (c.delete.ensures t w)
+pub returns-clause-read : goal.returns-clause-read
+returns-clause-read c =
+    deletion_judged _ _ _ _ _ (sym c.clause_at.ensures ∙ asked_some _ (sym c.ok_or.ensures.value ∙ c.in_ok-measure.was)) c.if-measure-gt-COPIES.false c.undo.ensures.undone
+    (λ h e. c.list_line.ensures.listed h e c.if-not-list_line.false) c.delete.ensures.answer

@@ -1,21 +1,47 @@
 use native.Mathlib.Omega.{arith}
-use mathlib.Core.Path.{◌≡◌, refl, sym, ◌∙◌}
-use Prim.Native.Nat.{ℕ, ◌-◌}
-use Rattle.lists.proofs.ListLaws.{on_the_way, is_lost, is_more}
+use mathlib.Core.Path.{refl, ap, sym, ◌∙◌}
+use Rattle.rules.proofs.Kit.{clear}
+use Rattle.lines.specs.Scan.{literal_at}
+use Rattle.lines.specs.Literals.{literals_line, literals_at}
+use Rattle.lists.specs.Lists.{is_list}
+use Rattle.lists.proofs.ListLaws.{is_lost, is_more}
 use Rattle.ferat.proofs.DeletionLaws.{listing_start, listing_done, listing_next, line_end, line_more}
 use Rattle.ferat.proofs.deletion_lines.list_line.Goals as goal
 
 pub loop-x-init : goal.loop-x-init
-loop-x-init c = (refl, λ h. listing_start _ _ _ _ h)
+loop-x-init c =
+    let e = c.into_iter-x-iterator.ensures.into_iter_gives in
+    let n = c.new-x-items.ensures in
+    let p = ap literals_at e ∙ n.1 in
+    record { line = ap literals_line e ∙ n.0; list = ap (is_list c.args.line.now) p; listed = λ h e. rw p (listing_start _ _ _ h e) }
 
-pub returns-in_default : goal.returns-in_default
-returns-in_default c = (λ h. tt, λ q. sym c.loop-x.invariant.0 ∙ is_lost _ c.loop-x.i (sym c.literal_at.ensures ∙ c.in_default.is))
+pub returns : goal.returns
+returns c =
+    let i = c.loop-x.invariant in
+    record {
+      listed = λ h e q. absurd (clear q refl);
+      bad = λ q. sym i.list ∙ is_lost _ (literals_at c.loop-x.x-iterator) (ap (λ t. literal_at t (literals_at c.loop-x.x-iterator)) (sym i.line) ∙ c.in-None.ensures.steps.0);
+    }
 
 pub returns-then-x-eq0 : goal.returns-then-x-eq0
-returns-then-x-eq0 c = (λ h. listing_done _ _ (c.loop-x.invariant.1 h) (line_end _ c.loop-x.i (sym c.literal_at.ensures ∙ c.in-Of.is) c.if-x-eq0.true), λ q. absurd (let z : ◌≡◌ {A = ℕ} 0 1 = cc in omega arith))
-
-pub loop-x-smaller : goal.loop-x-smaller
-loop-x-smaller c = let w = on_the_way _ c.loop-x.i (sym c.literal_at.ensures ∙ c.in-Of.is) in omega arith
+returns-then-x-eq0 c =
+    let i = c.loop-x.invariant in
+    record {
+      listed = λ h e q. listing_done _ _ (i.listed h e)
+          (line_end _ (literals_at c.loop-x.x-iterator) (ap (λ t. literal_at t (literals_at c.loop-x.x-iterator)) (sym i.line) ∙ c.in-Some.ensures.steps.0) c.if-x-eq0.true);
+      bad = λ q. absurd (clear refl q);
+    }
 
 pub loop-x-preserved : goal.loop-x-preserved
-loop-x-preserved c = (sym (is_more _ c.loop-x.i (sym c.literal_at.ensures ∙ c.in-Of.is) c.if-x-eq0.false) ∙ c.loop-x.invariant.0, λ h. let q = c.list_literal-n.ensures (c.loop-x.invariant.1 h).listed (omega arith) in listing_next _ _ (c.loop-x.invariant.1 h) (line_more _ c.loop-x.i (sym c.literal_at.ensures ∙ c.in-Of.is) c.if-x-eq0.false) q.0 q.1)
+loop-x-preserved c =
+    let i = c.loop-x.invariant in
+    let s = c.in-Some.ensures.steps in
+    let read = ap (λ t. literal_at t (literals_at c.loop-x.x-iterator)) (sym i.line) ∙ s.0 in
+    record {
+      line = s.1 ∙ i.line;
+      list = ap (is_list c.args.line.now) s.2 ∙ sym (is_more _ (literals_at c.loop-x.x-iterator) read c.if-x-eq0.false) ∙ i.list;
+      listed = λ h e.
+          let m = i.listed h e in
+          let q = c.list_literal.ensures m.listed (omega arith) in
+          rw s.2 (listing_next _ _ m (line_more _ (literals_at c.loop-x.x-iterator) read c.if-x-eq0.false) q.0 q.1);
+    }

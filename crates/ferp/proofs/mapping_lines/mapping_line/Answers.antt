@@ -1,8 +1,15 @@
+use Rattle.std.proofs.Common.{◌≡◌, Err, rules}
+use Rattle.tables.specs.Lent.{tables_of}
 use Rattle.ferp.proofs.MappingLaws.{mapping_refused, mapping_next}
 use Rattle.ferp.proofs.mapping_lines.mapping_line.Goals as goal
 
-pub returns-in-Refuse : goal.returns-in-Refuse
-returns-in-Refuse c = λ t w. mapping_refused _ _ _ _ _ _ c.before_clauses-open.ensures _ _ c.mapping_line.ensures c.in-Refuse.is
+pub returns-in_err-mapping_line-clause-read : goal.returns-in_err-mapping_line-clause-read
+returns-in_err-mapping_line-clause-read c =
+    let r : c.from_residual.result ≡ Err c.in_err-mapping_line.field-0.0 = search rules in
+    rw r (mapping_refused _ _ _ (tables_of c.args.tables.now) c.args.work.now _ c.before_clauses.ensures _ _ c.mapping_line.ensures.read
+    c.in_err-mapping_line.was c.mapping_line.ensures.rest)
 
-pub returns-in-Next : goal.returns-in-Next
-returns-in-Next c = λ t w. mapping_next _ _ _ _ _ _ c.before_clauses-open.ensures _ _ c.mapping_line.ensures c.in-Next.is c.with_mapping.ensures
+pub returns-clause-read : goal.returns-clause-read
+returns-clause-read c =
+    mapping_next _ _ _ (tables_of c.args.tables.now) c.args.work.now _ c.before_clauses.ensures _ _ c.mapping_line.ensures.read
+    c.in_ok-mapping_line.was c.mapping_line.ensures.rest

@@ -1,38 +1,32 @@
-use native.Mathlib.Omega.{arith}
-use Prim.Native.Nat.{◌-◌}
-use Rattle.mapped.proofs.NumberLaws.{item_told}
-use Rattle.mapping.proofs.CopyLaws.{copying_start, copying_end, copying_short, copying_more}
+use mathlib.Core.Logic.{⊎_elim}
+use Rattle.std.proofs.Common.{◌≡◌, refl, ap, ◌∙◌, ◌≤◌, length, Err, rules, arith}
+use Rattle.rules.specs.Rule.{broken}
+use Rattle.mapped.specs.Numbers.{numbers_at}
+use Rattle.mapped.proofs.NumberLaws.{list_ends, numbers_few}
+use Rattle.mapping.proofs.CopyLaws.{copying_end, copying_short, copying_more}
 use Rattle.mapping.proofs.stores.put_copies.Goals as goal
 
-pub loop-n-init : goal.loop-n-init
-loop-n-init c = copying_start _ _ _ _ _ _ _
+pub returns-in_err-p : goal.returns-in_err-p
+returns-in_err-p c =
+    let g = rw c.in_err-p.was at c.in-Some.ensures.steps.0 in
+    let r : c.from_residual.result ≡ Err c.in_err-p.field-0.0 = search rules in
+    (copying_end c.loop-copy.invariant g.0, λ a b. ap broken r ∙ g.1 ∙ c.loop-copy.invariant.copies_end ∙ list_ends _ _ a)
 
-pub returns-in-End : goal.returns-in-End
-returns-in-End c = let l = c.loop-n in
-    copying_end _ _ _ _ _ _ _ l.invariant (item_told _ l.i c.in-End.is c.item_at.ensures)
+pub returns-in_err-e : goal.returns-in_err-e
+returns-in_err-e c =
+    let g = rw c.in_err-e.was at c.in-Some.ensures.steps.1 in
+    let r : c.from_residual-in_err-e.result ≡ Err c.in_err-e.field-0.0 = search rules in
+    (copying_short c.loop-copy.invariant g.0, λ a b. ap broken r ∙ g.1 ∙ c.loop-copy.invariant.existentials_end ∙ list_ends _ _ b)
 
-pub returns-in-End-item_at : goal.returns-in-End-item_at
-returns-in-End-item_at c = let l = c.loop-n in
-    copying_short _ _ _ _ _ _ _ l.invariant (item_told _ l.i c.in-Of.is c.item_at.ensures) (item_told _ l.j c.in-End-item_at.is c.item_at-in-Of.ensures)
+pub loop-copy-preserved : goal.loop-copy-preserved
+loop-copy-preserved c =
+    let g = rw c.in_ok-p.was at c.in-Some.ensures.steps.0 in
+    let h = rw c.in_ok-e.was at c.in-Some.ensures.steps.1 in
+    let few : length (numbers_at c.args.line.now c.args.at) ≤ length c.args.line.now = numbers_few _ _ _ (omega arith) in
+    copying_more c.loop-copy.invariant g.0 h.0 h.3 few g.1 h.1 c.put.ensures c.put-in-loop-copy.ensures c.put-in-loop-copy-2.ensures
 
-pub overflow_cast-e : goal.overflow_cast-e
-overflow_cast-e c = let q = item_told _ c.loop-n.j c.in-Of-item_at.is c.item_at-in-Of.ensures in omega (arith, q.2)
-
-pub overflow_add-w : goal.overflow_add-w
-overflow_add-w c = omega arith
-
-pub overflow_sub-p : goal.overflow_sub-p
-overflow_sub-p c = let o = item_told _ c.loop-n.i c.in-Of.is c.item_at.ensures in omega (arith, o.1)
-
-pub overflow_cast-w : goal.overflow_cast-w
-overflow_cast-w c = omega arith
-
-pub overflow_add-k : goal.overflow_add-k
-overflow_add-k c = omega arith
-
-pub loop-n-smaller : goal.loop-n-smaller
-loop-n-smaller c = let o = item_told _ c.loop-n.i c.in-Of.is c.item_at.ensures in omega (arith, o.3, o.4)
-
-pub loop-n-preserved : goal.loop-n-preserved
-loop-n-preserved c = let l = c.loop-n in
-    copying_more _ _ _ _ _ _ _ l.invariant (item_told _ l.i c.in-Of.is c.item_at.ensures) (item_told _ l.j c.in-Of-item_at.is c.item_at-in-Of.ensures) c.put.ensures c.put-in-Of-item_at.ensures c.put-in-Of-item_at-2.ensures
+pub returns : goal.returns
+returns c = (
+  ⊎_elim (λ w. copying_end c.loop-copy.invariant w.1.0) (λ w. copying_short c.loop-copy.invariant w.1.0) c.in-None.ensures.steps,
+  λ a b. refl,
+)

@@ -1,32 +1,25 @@
-use mathlib.Core.Path.{◌∙◌, sym}
+use mathlib.Core.Path.{◌∙◌, sym, ap}
 use native.Mathlib.Omega.{arith}
 use mathlib.Core.Logic.{inl, inr}
-use Rattle.clauses.proofs.CursorLaws.{read_end, read_more, read_less}
-use Rattle.rules.proofs.Kit.{not_t, not_f, either}
-use Rattle.propagation.proofs.MoveLaws.{looking_start, seeking_end, looking_false, seeking_one, looking_in}
+use Rattle.cells.specs.Codes.{codes_left}
+use Rattle.cells.proofs.Laws.{first_code}
+use Rattle.rules.proofs.Kit.{either}
+use Rattle.propagation.proofs.MoveLaws.{looking_at, looking_false, seeking_one, looking_in}
 use Rattle.propagation.proofs.looks.seek.Goals as goal
 
-pub loop-i-init : goal.loop-i-init
-loop-i-init c = (looking_start _ _, inl (omega arith))
-
-pub returns-then-l-eq0 : goal.returns-then-l-eq0
-returns-then-l-eq0 c = rw c.looked.ensures (seeking_end _ _ _ _ c.loop-i.invariant.0 (read_end _ _ _ c.literal-l.ensures.0 c.if-l-eq0.true))
+pub loop-l-init : goal.loop-l-init
+loop-l-init c = (looking_at _ _ (ap codes_left c.into_iter-l-iterator.ensures.into_iter_gives), inl (omega arith))
 
 pub returns-then-l-o : goal.returns-then-l-o
-returns-then-l-o c = looking_in _ _ _ _ c.loop-i.invariant.0 _ _ (read_more _ _ _ c.literal-l.ensures.0 c.if-l-eq0.false c.after-i.ensures)
+returns-then-l-o c = looking_in _ _ _ _ c.loop-l.invariant.0 _ _ c.in-Some.ensures.steps
 
-pub loop-i-smaller-then-not-is_off : goal.loop-i-smaller-then-not-is_off
-loop-i-smaller-then-not-is_off c = read_less _ _ _ c.literal-l.ensures.0 c.if-l-eq0.false c.after-i.ensures
-
-pub loop-i-preserved-then-not-is_off : goal.loop-i-preserved-then-not-is_off
-loop-i-preserved-then-not-is_off c = (
-  seeking_one _ _ _ _ c.loop-i.invariant.0 _ _ (read_more _ _ _ c.literal-l.ensures.0 c.if-l-eq0.false c.after-i.ensures) (sym (c.is_off.ensures c.literal-l.ensures.1) ∙ not_t _ c.if-not-is_off.true-raw) c.if-l-eq0.false
-      (either inl (λ e. inr (e ∙ sym c.if-l-o.false)) c.loop-i.invariant.1),
+pub loop-l-preserved-then-not-is_off : goal.loop-l-preserved-then-not-is_off
+loop-l-preserved-then-not-is_off c = let s = first_code _ _ _ _ c.in-Some.ensures.steps in (
+  seeking_one _ _ _ _ c.loop-l.invariant.0 _ _ c.in-Some.ensures.steps (sym (c.if-not-is_off.ensures s.2)) (λ z. omega arith)
+      (either inl (λ e. inr (e ∙ sym c.if-l-o.false)) c.loop-l.invariant.1),
   inr c.if-l-o.false,
 )
 
-pub loop-i-smaller : goal.loop-i-smaller
-loop-i-smaller c = read_less _ _ _ c.literal-l.ensures.0 c.if-l-eq0.false c.after-i.ensures
-
-pub loop-i-preserved : goal.loop-i-preserved
-loop-i-preserved c = (looking_false _ _ _ _ c.loop-i.invariant.0 _ _ (read_more _ _ _ c.literal-l.ensures.0 c.if-l-eq0.false c.after-i.ensures) (sym (c.is_off.ensures c.literal-l.ensures.1) ∙ not_f _ c.if-not-is_off.false-raw), c.loop-i.invariant.1)
+pub loop-l-preserved : goal.loop-l-preserved
+loop-l-preserved c = let s = first_code _ _ _ _ c.in-Some.ensures.steps in
+    (looking_false _ _ _ _ c.loop-l.invariant.0 _ _ c.in-Some.ensures.steps (sym (c.if-not-is_off.ensures s.2)), c.loop-l.invariant.1)

@@ -2,11 +2,16 @@ use mathlib.Core.Path.{sym, ◌∙◌}
 use Rattle.steps.proofs.AddLaws.{add_left, add_refused, add_next}
 use Rattle.steps.proofs.additions.add.Goals as goal
 
-pub returns-then-hint_left : goal.returns-then-hint_left
-returns-then-hint_left c = λ t w. add_left _ _ _ _ _ (sym c.hint_left.ensures ∙ c.if-hint_left.true) _
+pub returns-then-hint_left-clause-answer : goal.returns-then-hint_left-clause-answer
+returns-then-hint_left-clause-answer c = add_left _ _ _ _ _ (sym c.hint_left.ensures ∙ c.if-hint_left.true) _
 
-pub returns-in-Refused : goal.returns-in-Refused
-returns-in-Refused c = λ t w. add_refused _ _ _ _ _ (sym c.hint_left.ensures ∙ c.if-hint_left.false) _ _ _ c.places-count.ensures c.pending-c.ensures c.add.ensures c.in-Refused.is _
+pub returns-in-None-clause-answer : goal.returns-in-None-clause-answer
+returns-in-None-clause-answer c =
+    let d = c.standing_below-standing.ensures in
+    add_refused _ _ _ _ _ (sym c.hint_left.ensures ∙ c.if-hint_left.false) _ _ d.proof d.marks (d.count ∙ c.places.ensures) c.pending-clause.ensures c.add.ensures c.in-None.is _
 
-pub returns-in-Accepted : goal.returns-in-Accepted
-returns-in-Accepted c = λ t w. add_next _ _ _ _ _ (sym c.hint_left.ensures ∙ c.if-hint_left.false) _ _ _ c.places-count.ensures c.pending-c.ensures c.add.ensures c.in-Accepted.is c.with_addition-counts.ensures c.stand.ensures
+pub returns-in-Some-clause-answer : goal.returns-in-Some-clause-answer
+returns-in-Some-clause-answer c =
+    let d = c.standing_below-standing.ensures in
+    add_next _ _ _ _ _ (sym c.hint_left.ensures ∙ c.if-hint_left.false) _ _ d.proof d.marks (d.count ∙ c.places.ensures) c.pending-clause.ensures c.add.ensures c.in-Some.is
+    c.with_addition-counts.ensures _ c.stand.ensures.rest c.stand.ensures.answer

@@ -1,5 +1,8 @@
+use mathlib.Core.Path.{◌∙◌}
 use Rattle.steps.proofs.StandLaws.{stands_then}
 use Rattle.steps.proofs.additions.stand.Goals as goal
 
-pub returns : goal.returns
-returns c = λ o. stands_then _ _ _ _ _ _ _ _ _ c.larger.ensures c.places-place.ensures _ _ c.stand-store.ensures c.places-count.ensures _ _ _ c.attach-held.ensures o
+pub returns-clause-answer : goal.returns-clause-answer
+returns-clause-answer c = λ o.
+    let d = c.standing_below-standing.ensures in
+    stands_then _ _ _ _ _ _ c.max.ensures c.places-place.ensures _ _ c.stand-store.ensures d.proof d.marks (d.count ∙ c.places.ensures) _ _ _ c.attach-followed.ensures o

@@ -1,0 +1,13 @@
+use Rattle.assignment.proofs.HeldLaws.{left_more, left_none}
+use Rattle.assignment.proofs.least.Least.take_back.Goals as goal
+
+pub loop-i-preserved : goal.loop-i-preserved
+loop-i-preserved c = let l = c.loop-i.invariant in record {
+  lent = l.lent;
+  held = l.held;
+  count = l.count;
+  left = λ h. left_more _ _ _ (l.left h) c.loop-i-test.true c.code-y.ensures.0 c.set_at.ensures;
+}
+
+pub returns-clause-unmarked : goal.returns-clause-unmarked
+returns-clause-unmarked c = λ h. left_none _ _ _ (c.loop-i.invariant.left h) c.loop-i-test.false

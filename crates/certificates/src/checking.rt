@@ -1,0 +1,53 @@
+// The check of two files.
+ghost use Rattle.std.specs.Prelude.{◌≡◌, ◌≤◌, List, ℕ, length};
+ghost use Rattle.rules.specs.Limits.{Limits};
+ghost use Rattle.rules.specs.Verdict.{Checked, Ranged};
+ghost use Rattle.reading.specs.Lines.{FormulaChecked};
+ghost use Rattle.tables.specs.Lent.{tables_of, SameLent};
+ghost use Rattle.tables.specs.Checked.{CheckedBy};
+ghost use Rattle.certificates.specs.Check.{BothFiles, InRange};
+
+use crate::Kind;
+use formula::Reading;
+use reading::{Ended, refused_early, report_of};
+use rules::{Report, Rule};
+use tables::{BYTES, LentTables};
+
+// A kind of certificate with a check of both files, which has working memory of its own.
+pub trait Checker: Kind {
+    // The rules over both files, and the numbers of their verdicts.
+    ghost checked: { Limits → List ℕ → List ℕ → Checked };
+
+    ghost Number: { ℕ → Type 0 };
+
+    // The certificate of the formula that the tables show.
+    fn certificate(certificate: &[u8], r: Reading, tables: &mut LentTables) -> Ended
+        ensures read { length certificate.now ≤ 1048576 → FormulaChecked Self.rules certificate.now r
+            (tables_of tables.old) result (tables_of tables.new) }
+        ensures files { ((tables_of tables.new).prefix ≡ (tables_of tables.old).prefix)
+            × ((tables_of tables.new).matrix ≡ (tables_of tables.old).matrix) }
+        ensures lent { SameLent tables.old tables.new };
+
+    // They judge the certificate's lines by the rules of the kind, and their verdicts are in its range.
+    ghost of_both_files: { BothFiles Self.rules checked };
+
+    ghost in_range: { InRange checked Number };
+}
+
+// THE CHECK of two files in six tables.
+pub fn check<C: Checker>(formula: &[u8], certificate: &[u8], tables: &mut LentTables) -> Report
+    ensures checked { CheckedBy (λ l. C.checked l formula.now certificate.now)
+        (Ranged C.Number formula.now certificate.now) (tables_of tables.old) result (tables_of tables.new) }
+    ensures lent { SameLent tables.old tables.new }
+{
+    if BYTES < formula.len() {
+        return refused_early(Rule::Overlong.into(), 1);
+    }
+    if BYTES < certificate.len() {
+        return refused_early(Rule::Overlong.into(), 2);
+    }
+    match formula::read_formula(formula, tables.prefix, tables.matrix) {
+        Err(refusal) => refused_early(refusal, 1),
+        Ok(r) => report_of(C::certificate(certificate, r, tables)),
+    }
+}

@@ -1,6 +1,0 @@
-use mathlib.Core.Path.{sym}
-use lib.ListN.{get_or-eq_default}
-use Rattle.checks.proofs.kind_at.Goals as goal
-
-pub returns : goal.returns
-returns c = sym (get_or-eq_default c.args.kinds.now 0 c.if-k-kinds.false)

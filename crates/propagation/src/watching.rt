@@ -1,0 +1,90 @@
+// Watched literals: where to look for units next. They are hints, and nothing is proved of what these lists hold.
+// Nodes 2k and 2k + 1 are the two watches of the clause at place k; a number above every node, END, ends a list. `first` has for each literal
+// the first node that watches it (0: the clauses with no two literals; 1 and 65535: nodes of deleted clauses), `next` for each node the next
+// of its list, `pair` for each clause the exclusive or of the two literals that it watches: who comes along the list of one of them has the
+// other from it.
+ghost use Rattle.std.specs.Prelude.{◌<◌};
+
+use crate::{END, Watches};
+use trail::Trail;
+
+pub fn first(watches: &Watches, l: u32) -> u32 {
+    watches.first[(l % 65536) as usize]
+}
+
+// Where the node after p stands.
+fn next_of(p: u32) -> usize
+    ensures { result < 262144 }
+{
+    (p % 262144) as usize
+}
+
+// Where the two literals of p's clause stand.
+fn pair_of(p: u32) -> usize
+    ensures { result < 131072 }
+{
+    (p / 2 % 131072) as usize
+}
+
+pub fn following(watches: &Watches, p: u32) -> u32 {
+    watches.next[next_of(p)]
+}
+
+// The literal that the clause of node p watches beside l.
+pub fn partner(watches: &Watches, p: u32, l: u32) -> u32
+    ensures { result < 65536 }
+{
+    (watches.pair[pair_of(p)] ^ l) % 65536
+}
+
+// Whether the negation of o is false, so that nothing need be looked for in a clause that has o.
+pub fn seems_true(trail: &Trail, o: u32) -> bool {
+    trail.falses[((o ^ 1) % 65536) as usize] != 0
+}
+
+// Node p is the first that watches l.
+fn link(watches: &mut Watches, p: u32, l: u32) {
+    let list = (l % 65536) as usize;
+    watches.next[next_of(p)] = watches.first[list];
+    watches.first[list] = p;
+}
+
+// Node p, which `before` and `after` stand around in the list of l, watches w from now on, unless that is o, which its clause watches
+// already. The node that stands before `after` then.
+pub fn watch_instead(
+    watches: &mut Watches,
+    l: u32,
+    before: u32,
+    p: u32,
+    after: u32,
+    w: u32,
+    o: u32,
+) -> u32 {
+    if w == o {
+        return p;
+    }
+    if before == END {
+        watches.first[(l % 65536) as usize] = after;
+    } else {
+        watches.next[next_of(before)] = after;
+    }
+    link(watches, p, w);
+    watches.pair[pair_of(p)] = w ^ o;
+    before
+}
+
+// The clause at place k watches a and b; one with no two literals is in the list of short ones. A clause beyond the last node is not linked.
+pub fn watch(watches: &mut Watches, k: usize, a: u32, b: Option<u32>) {
+    if 131072 <= k {
+        return;
+    }
+    let p = (2 * k) as u32;
+    let Some(b) = b else {
+        watches.pair[pair_of(p)] = a;
+        link(watches, p, 0);
+        return;
+    };
+    watches.pair[pair_of(p)] = a ^ b;
+    link(watches, p, a);
+    link(watches, p + 1, b);
+}
