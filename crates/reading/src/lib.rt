@@ -2,9 +2,13 @@
 #![tactic(auto)]
 
 ghost use Rattle.std.specs.Prelude.{◌≡◌};
+ghost use Rattle.reading.specs.Counting.{more, one_addition, one_deletion, one_expansion};
 ghost use Rattle.reading.specs.Ends.{ended_by, report_of, refused_early};
 
 use rules::{Refusal, Report, Rule, Verdict};
+
+// A counter is taken modulo this, so that a step fits whatever the counter was; no certificate has so many lines.
+const STEPS: u32 = 1073741824;
 
 // The lines accepted: expansions, additions or resolutions, deletions.
 #[derive(Clone, Copy, PartialEq, Eq, Default)]
@@ -12,6 +16,45 @@ pub struct Counts {
     pub expansions: u32,
     pub additions: u32,
     pub deletions: u32,
+}
+
+// One line more.
+fn one_more(n: u32) -> u32
+    ensures { result ≡ more n }
+{
+    n % STEPS + 1
+}
+
+impl Counts {
+    // One expansion more.
+    pub fn with_expansion(self) -> Counts
+        ensures { result ≡ one_expansion self }
+    {
+        Counts {
+            expansions: one_more(self.expansions),
+            ..self
+        }
+    }
+
+    // One addition or resolution more.
+    pub fn with_addition(self) -> Counts
+        ensures { result ≡ one_addition self }
+    {
+        Counts {
+            additions: one_more(self.additions),
+            ..self
+        }
+    }
+
+    // One deletion more.
+    pub fn with_deletion(self) -> Counts
+        ensures { result ≡ one_deletion self }
+    {
+        Counts {
+            deletions: one_more(self.deletions),
+            ..self
+        }
+    }
 }
 
 // The reading ends, with a refusal or without; and the lines accepted until then.
