@@ -9,6 +9,7 @@ use borrow.Author.Count.{below_more}
 use Rattle.rules.proofs.Kit.{clear}
 use Rattle.rules.specs.Codes.{flip}
 use Rattle.propagation.specs.declared.looks.Look.TheVariants as look
+use Rattle.propagation.specs.declared.Propagation.{Propagation}
 use Rattle.propagation.specs.declared.Scan.{Scan}
 use Rattle.propagation.specs.declared.Scan.TheVariants as scan
 use Rattle.rules.specs.declared.Outcome.{Outcome}
@@ -66,8 +67,8 @@ pub turned_some : {S : List (List ℕ)} {f₀ t₀ : List ℕ} {n₀ : ℕ} {f t
 unfolding Turned
 turned_some w m = m
 
-pub moved_as : {G : (ℕ → Bool) → Type 0} {a b c : Trail} → c ≡ b → MovedIn G a b → MovedIn G a c
-moved_as {G} {a} e m = subst (λ (x : Trail). MovedIn G a x) (sym e) m
+pub moved_as : {G : (ℕ → Bool) → Type 0} {a : Trail} {b c : Propagation} → c ≡ b → MovedIn G a b.trail → MovedIn G a c.trail
+moved_as {G} {a} e m = subst (λ (x : Propagation). MovedIn G a x.trail) (sym e) m
 
 pub visited_on : {S : List (List ℕ)} {f₀ t₀ : List ℕ} {n₀ : ℕ} {f t : List ℕ} {n : ℕ} (f' t' : List ℕ) (n' : ℕ) → Moved (Good S) f₀ t₀ n₀ f t n
     → (r : Outcome) → Visited S f t n f' t' n' r → Visited S f₀ t₀ n₀ f' t' n' r

@@ -10,7 +10,7 @@ use clauses::Standing;
 use looks::{Look, another, read_clause, seek};
 use rules::Outcome;
 use trail::Trail;
-use watching::{first, following, partner, seems_true, watch, watch_instead};
+use watching::seems_true;
 
 mod looks;
 mod watching;
@@ -26,6 +26,13 @@ pub struct Watches {
 
 // Ends each list of watches; at the start all of them are empty.
 pub const END: u32 = 4294967295;
+
+// What propagation works on: which literals are false, and the watches.
+#[derive(Drop)]
+pub struct Propagation {
+    pub trail: Trail,
+    pub watches: Watches,
+}
 
 // A look at all standing clauses.
 #[derive(Clone, Copy)]
@@ -56,48 +63,6 @@ fn judge(standing: Standing, trail: &mut Trail, k: usize, o: u32) -> Option<u32>
     Some(1)
 }
 
-// The clauses that watch l, which is false. The lists may be cyclic for all that is known of them: the walk ends after as many steps as there are nodes.
-fn walk(standing: Standing, trail: &mut Trail, watches: &mut Watches, l: u32) -> Outcome
-    ensures { ReadyIn trail.old → VisitedIn (standing_of standing.entry) trail.old trail.new result }
-{
-    let mut before: u32 = END;
-    let mut p = first(watches, l);
-    for _ in 0..262144u32 {
-        let k = (p / 2) as usize;
-        if standing.count <= k {
-            return Outcome::Stable;
-        }
-        let o = partner(watches, p, l);
-        let after = following(watches, p);
-        if seems_true(trail, o) {
-            before = p;
-        } else {
-            let Some(w) = judge(standing, trail, k, o) else {
-                return Outcome::Conflict;
-            };
-            before = watch_instead(watches, l, before, p, after, w, o);
-        }
-        p = after;
-    }
-    Outcome::Stable
-}
-
-// The watches of what became false from place q of the trail on.
-fn follow(standing: Standing, trail: &mut Trail, q: usize, watches: &mut Watches) -> Outcome
-    ensures { ReadyIn trail.old → VisitedIn (standing_of standing.entry) trail.old trail.new result }
-{
-    for i in q..65536 {
-        if trail.length <= i {
-            return Outcome::Stable;
-        }
-        let l = trail.literal_at(i);
-        let Outcome::Stable = walk(standing, trail, watches, l) else {
-            return Outcome::Conflict;
-        };
-    }
-    Outcome::Stable
-}
-
 // What a look at every standing clause finds.
 fn scan_all(standing: Standing, trail: &Trail) -> Scan
     ensures { ScannedIn (standing_of standing.entry) trail.now result }
@@ -118,79 +83,113 @@ fn scan_all(standing: Standing, trail: &Trail) -> Scan
     Scan::Closed
 }
 
-// Propagation: what the watches find, until a scan finds nothing more. The watches of the trail are followed up to place q.
-pub fn propagate(standing: Standing, trail: &mut Trail, q: usize, watches: &mut Watches) -> Outcome
-    ensures { ReadyIn trail.old → SettledIn (standing_of standing.entry) trail.old trail.new result }
-{
-    let mut followed = q;
-    for _ in 0..65536u32 {
-        let Outcome::Stable = follow(standing, trail, followed, watches) else {
+impl Propagation {
+    // The clauses that watch l, which is false. The lists may be cyclic for all that is known of them: the walk ends after as many steps as
+    // there are nodes.
+    fn walk(&mut self, standing: Standing, l: u32) -> Outcome
+        ensures { ReadyIn self.old.trail → VisitedIn (standing_of standing.entry) self.old.trail self.new.trail result }
+    {
+        let mut before: u32 = END;
+        let mut p = self.watches.first(l);
+        for _ in 0..262144u32 {
+            let k = (p / 2) as usize;
+            if standing.count <= k {
+                return Outcome::Stable;
+            }
+            let o = self.watches.partner(p, l);
+            let after = self.watches.following(p);
+            if seems_true(&self.trail, o) {
+                before = p;
+            } else {
+                let Some(w) = judge(standing, &mut self.trail, k, o) else {
+                    return Outcome::Conflict;
+                };
+                before = self.watches.watch_instead(l, before, p, after, w, o);
+            }
+            p = after;
+        }
+        Outcome::Stable
+    }
+
+    // The watches of what became false from place q of the trail on.
+    fn follow(&mut self, standing: Standing, q: usize) -> Outcome
+        ensures { ReadyIn self.old.trail → VisitedIn (standing_of standing.entry) self.old.trail self.new.trail result }
+    {
+        for i in q..65536 {
+            if self.trail.length <= i {
+                return Outcome::Stable;
+            }
+            let l = self.trail.literal_at(i);
+            let Outcome::Stable = self.walk(standing, l) else {
+                return Outcome::Conflict;
+            };
+        }
+        Outcome::Stable
+    }
+
+    // Propagation: what the watches find, until a scan finds nothing more. The watches of the trail are followed up to place q.
+    pub fn propagate(&mut self, standing: Standing, q: usize) -> Outcome
+        ensures { ReadyIn self.old.trail → SettledIn (standing_of standing.entry) self.old.trail self.new.trail result }
+    {
+        let mut followed = q;
+        for _ in 0..65536u32 {
+            let Outcome::Stable = self.follow(standing, followed) else {
+                return Outcome::Conflict;
+            };
+            followed = self.trail.length;
+            match scan_all(standing, &self.trail) {
+                Scan::Falsified => return Outcome::Conflict,
+                Scan::Closed => return Outcome::Stable,
+                Scan::Unit(u) => self.trail.make_true(u),
+            }
+        }
+        Outcome::Conflict
+    }
+
+    // What follows from the standing clauses alone; the watches of the trail are followed up to place q.
+    pub fn ground(&mut self, standing: Standing, q: usize) -> Outcome
+        ensures { ReadyIn self.old.trail → VisitedIn (standing_of standing.entry) self.old.trail self.new.trail result }
+    {
+        if q != 0 {
+            return self.follow(standing, q);
+        }
+        let Outcome::Stable = self.walk(standing, 0) else {
             return Outcome::Conflict;
         };
-        followed = trail.length;
-        match scan_all(standing, trail) {
-            Scan::Falsified => return Outcome::Conflict,
-            Scan::Closed => return Outcome::Stable,
-            Scan::Unit(u) => trail.make_true(u),
+        self.follow(standing, 0)
+    }
+
+    // The clause at place k is watched from now on; a literal that it makes true goes on the trail. None: a conflict.
+    fn watch_clause(&mut self, standing: Standing, k: usize) -> Option<u32>
+        ensures { ReadyIn self.old.trail → (k < standing.entry.count)
+            → TurnedIn (standing_of standing.entry) self.old.trail self.new.trail result }
+    {
+        let clause = standing.clause(k);
+        match read_clause(clause, &self.trail) {
+            Look::Open(a, b) => {
+                self.watches.watch(k, a, Some(b));
+                Some(1)
+            }
+            Look::Unit(a) => {
+                self.watches.watch(k, a, another(clause, a));
+                judge(standing, &mut self.trail, k, a)
+            }
+            Look::Falsified => {
+                let a = another(clause, 0).unwrap_or(0);
+                self.watches.watch(k, a, another(clause, a));
+                judge(standing, &mut self.trail, k, 0)
+            }
         }
     }
-    Outcome::Conflict
-}
 
-// What follows from the standing clauses alone; the watches of the trail are followed up to place q.
-pub fn ground(standing: Standing, trail: &mut Trail, q: usize, watches: &mut Watches) -> Outcome
-    ensures { ReadyIn trail.old → VisitedIn (standing_of standing.entry) trail.old trail.new result }
-{
-    if q != 0 {
-        return follow(standing, trail, q, watches);
-    }
-    let Outcome::Stable = walk(standing, trail, watches, 0) else {
-        return Outcome::Conflict;
-    };
-    follow(standing, trail, 0, watches)
-}
-
-// The clause at place k is watched from now on; a literal that it makes true goes on the trail. None: a conflict.
-fn watch_clause(
-    standing: Standing,
-    trail: &mut Trail,
-    watches: &mut Watches,
-    k: usize,
-) -> Option<u32>
-    ensures { ReadyIn trail.old → (k < standing.entry.count)
-        → TurnedIn (standing_of standing.entry) trail.old trail.new result }
-{
-    let clause = standing.clause(k);
-    match read_clause(clause, trail) {
-        Look::Open(a, b) => {
-            watch(watches, k, a, Some(b));
-            Some(1)
+    // The clause at place k, which is new, is watched from now on; up to where the watches of the trail are followed then.
+    pub fn attach(&mut self, standing: Standing, q: usize, k: usize) -> usize
+        ensures { HeldIn (standing_of standing.entry) self.old.trail → (k < standing.entry.count)
+            → HeldIn (standing_of standing.entry) self.new.trail }
+    {
+        match self.watch_clause(standing, k) {
+            None => 0,
+            Some(_) => q,
         }
-        Look::Unit(a) => {
-            watch(watches, k, a, another(clause, a));
-            judge(standing, trail, k, a)
-        }
-        Look::Falsified => {
-            let a = another(clause, 0).unwrap_or(0);
-            watch(watches, k, a, another(clause, a));
-            judge(standing, trail, k, 0)
-        }
-    }
-}
-
-// The clause at place k, which is new, is watched from now on; up to where the watches of the trail are followed then.
-pub fn attach(
-    standing: Standing,
-    trail: &mut Trail,
-    q: usize,
-    watches: &mut Watches,
-    k: usize,
-) -> usize
-    ensures { HeldIn (standing_of standing.entry) trail.old → (k < standing.entry.count)
-        → HeldIn (standing_of standing.entry) trail.new }
-{
-    match watch_clause(standing, trail, watches, k) {
-        None => 0,
-        Some(_) => q,
     }
 }

@@ -8,10 +8,6 @@ ghost use Rattle.std.specs.Prelude.{◌<◌};
 use crate::{END, Watches};
 use trail::Trail;
 
-pub fn first(watches: &Watches, l: u32) -> u32 {
-    watches.first[(l % 65536) as usize]
-}
-
 // Where the node after p stands.
 fn next_of(p: u32) -> usize
     ensures { result < 262144 }
@@ -26,65 +22,71 @@ fn pair_of(p: u32) -> usize
     (p / 2 % 131072) as usize
 }
 
-pub fn following(watches: &Watches, p: u32) -> u32 {
-    watches.next[next_of(p)]
-}
-
-// The literal that the clause of node p watches beside l.
-pub fn partner(watches: &Watches, p: u32, l: u32) -> u32
-    ensures { result < 65536 }
-{
-    (watches.pair[pair_of(p)] ^ l) % 65536
-}
-
 // Whether the negation of o is false, so that nothing need be looked for in a clause that has o.
 pub fn seems_true(trail: &Trail, o: u32) -> bool {
     trail.falses[((o ^ 1) % 65536) as usize] != 0
 }
 
-// Node p is the first that watches l.
-fn link(watches: &mut Watches, p: u32, l: u32) {
-    let list = (l % 65536) as usize;
-    watches.next[next_of(p)] = watches.first[list];
-    watches.first[list] = p;
-}
+impl Watches {
+    pub fn first(&self, l: u32) -> u32 {
+        self.first[(l % 65536) as usize]
+    }
 
-// Node p, which `before` and `after` stand around in the list of l, watches w from now on, unless that is o, which its clause watches
-// already. The node that stands before `after` then.
-pub fn watch_instead(
-    watches: &mut Watches,
-    l: u32,
-    before: u32,
-    p: u32,
-    after: u32,
-    w: u32,
-    o: u32,
-) -> u32 {
-    if w == o {
-        return p;
+    pub fn following(&self, p: u32) -> u32 {
+        self.next[next_of(p)]
     }
-    if before == END {
-        watches.first[(l % 65536) as usize] = after;
-    } else {
-        watches.next[next_of(before)] = after;
-    }
-    link(watches, p, w);
-    watches.pair[pair_of(p)] = w ^ o;
-    before
-}
 
-// The clause at place k watches a and b; one with no two literals is in the list of short ones. A clause beyond the last node is not linked.
-pub fn watch(watches: &mut Watches, k: usize, a: u32, b: Option<u32>) {
-    if 131072 <= k {
-        return;
+    // The literal that the clause of node p watches beside l.
+    pub fn partner(&self, p: u32, l: u32) -> u32
+        ensures { result < 65536 }
+    {
+        (self.pair[pair_of(p)] ^ l) % 65536
     }
-    let p = (2 * k) as u32;
-    let Some(b) = b else {
-        watches.pair[pair_of(p)] = a;
-        link(watches, p, 0);
-        return;
-    };
-    watches.pair[pair_of(p)] = a ^ b;
-    link(watches, p, a);
-    link(watches, p + 1, b);
+
+    // Node p is the first that watches l.
+    fn link(&mut self, p: u32, l: u32) {
+        let list = (l % 65536) as usize;
+        self.next[next_of(p)] = self.first[list];
+        self.first[list] = p;
+    }
+
+    // Node p, which `before` and `after` stand around in the list of l, watches w from now on, unless that is o, which its clause watches
+    // already. The node that stands before `after` then.
+    pub fn watch_instead(
+        &mut self,
+        l: u32,
+        before: u32,
+        p: u32,
+        after: u32,
+        w: u32,
+        o: u32,
+    ) -> u32 {
+        if w == o {
+            return p;
+        }
+        if before == END {
+            self.first[(l % 65536) as usize] = after;
+        } else {
+            self.next[next_of(before)] = after;
+        }
+        self.link(p, w);
+        self.pair[pair_of(p)] = w ^ o;
+        before
+    }
+
+    // The clause at place k watches a and b; one with no two literals is in the list of short ones. A clause beyond the last node is not linked.
+    pub fn watch(&mut self, k: usize, a: u32, b: Option<u32>) {
+        if 131072 <= k {
+            return;
+        }
+        let p = (2 * k) as u32;
+        let Some(b) = b else {
+            self.pair[pair_of(p)] = a;
+            self.link(p, 0);
+            return;
+        };
+        self.pair[pair_of(p)] = a ^ b;
+        self.link(p, a);
+        self.link(p + 1, b);
+    }
 }

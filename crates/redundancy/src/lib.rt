@@ -10,7 +10,7 @@ ghost use Rattle.redundancy.specs.Additions.{rup_of, rat_on, rat_of, first_of, l
 
 use cells::Codes;
 use clauses::{Standing, holds, none};
-use propagation::{Watches, ground, propagate};
+use propagation::Propagation;
 use rules::Outcome;
 use trail::{Trail, flip};
 
@@ -48,26 +48,27 @@ fn deny_both(joined: Joined, trail: &mut Trail) -> Outcome
 }
 
 // Propagation from the negations of a joined clause.
-fn refute(standing: Standing, trail: &mut Trail, watches: &mut Watches, joined: Joined) -> Outcome
-    ensures { ReadyIn trail.old
-        → RefutedIn (standing_of standing.entry) (joined_in joined.entry) trail.old trail.new result }
+fn refute(standing: Standing, propagation: &mut Propagation, joined: Joined) -> Outcome
+    ensures { ReadyIn propagation.old.trail
+        → RefutedIn (standing_of standing.entry) (joined_in joined.entry) propagation.old.trail propagation.new.trail result }
 {
-    let from = trail.length;
-    let Outcome::Stable = deny_both(joined, trail) else {
+    let from = propagation.trail.length;
+    let Outcome::Stable = deny_both(joined, &mut propagation.trail) else {
         return Outcome::Conflict;
     };
-    propagate(standing, trail, from, watches)
+    propagation.propagate(standing, from)
 }
 
 // Whether a joined clause is RUP; the trail is cut back, so that the next candidate starts anew.
-fn candidate(standing: Standing, trail: &mut Trail, watches: &mut Watches, joined: Joined) -> bool
-    ensures { ReadyIn trail.old
-        → FollowsIn (standing_of standing.entry) (codes_left joined.entry.c) trail.old
-        → TriedIn trail.old trail.new × (result ≡ rup_of (standing_of standing.entry) (joined_in joined.entry)) }
+fn candidate(standing: Standing, propagation: &mut Propagation, joined: Joined) -> bool
+    ensures { ReadyIn propagation.old.trail
+        → FollowsIn (standing_of standing.entry) (codes_left joined.entry.c) propagation.old.trail
+        → TriedIn propagation.old.trail propagation.new.trail
+        × (result ≡ rup_of (standing_of standing.entry) (joined_in joined.entry)) }
 {
-    let from = trail.length;
-    let outcome = refute(standing, trail, watches, joined);
-    trail.undo(from);
+    let from = propagation.trail.length;
+    let outcome = refute(standing, propagation, joined);
+    propagation.trail.undo(from);
     match outcome {
         Outcome::Conflict => true,
         Outcome::Stable => false,
@@ -75,17 +76,18 @@ fn candidate(standing: Standing, trail: &mut Trail, watches: &mut Watches, joine
 }
 
 // Every standing clause that holds the negation of l is a candidate.
-fn each(standing: Standing, trail: &mut Trail, watches: &mut Watches, c: Codes, l: u32) -> bool
-    ensures { ReadyIn trail.old
-        → FollowsIn (standing_of standing.entry) (codes_left c.entry) trail.old
-        → TriedIn trail.old trail.new × (result ≡ rat_on (standing_of standing.entry) (codes_left c.entry) l) }
+fn each(standing: Standing, propagation: &mut Propagation, c: Codes, l: u32) -> bool
+    ensures { ReadyIn propagation.old.trail
+        → FollowsIn (standing_of standing.entry) (codes_left c.entry) propagation.old.trail
+        → TriedIn propagation.old.trail propagation.new.trail
+        × (result ≡ rat_on (standing_of standing.entry) (codes_left c.entry) l) }
 {
     let skip = flip(l);
     for k in 0..standing.count {
         if standing.stands(k) {
             let d = standing.clause(k);
             if holds(d, skip) {
-                if !candidate(standing, trail, watches, Joined { c, d, skip }) {
+                if !candidate(standing, propagation, Joined { c, d, skip }) {
                     return false;
                 }
             }
@@ -102,42 +104,37 @@ fn pivot(mut clause: Codes) -> Option<u32>
 }
 
 // Whether clause c, whose negations are on the trail, is RAT.
-fn is_rat(standing: Standing, trail: &mut Trail, watches: &mut Watches, c: Codes) -> bool
-    ensures { ReadyIn trail.old
-        → FollowsIn (standing_of standing.entry) (codes_left c.entry) trail.old
-        → TriedIn trail.old trail.new × (result ≡ rat_of (standing_of standing.entry) (codes_left c.entry)) }
+fn is_rat(standing: Standing, propagation: &mut Propagation, c: Codes) -> bool
+    ensures { ReadyIn propagation.old.trail
+        → FollowsIn (standing_of standing.entry) (codes_left c.entry) propagation.old.trail
+        → TriedIn propagation.old.trail propagation.new.trail
+        × (result ≡ rat_of (standing_of standing.entry) (codes_left c.entry)) }
 {
     let Some(l) = pivot(c) else {
         return false;
     };
-    each(standing, trail, watches, c, l)
+    each(standing, propagation, c, l)
 }
 
 // Whether the addition c is RUP or RAT: up to where the watches of the trail are followed then. None: it is neither.
-pub fn add(
-    standing: Standing,
-    trail: &mut Trail,
-    q: usize,
-    watches: &mut Watches,
-    c: Codes,
-) -> Option<usize>
-    ensures { HeldIn (standing_of standing.entry) trail.old
-        → DecidedIn (standing_of standing.entry) (codes_left c.entry) trail.new result }
+pub fn add(standing: Standing, propagation: &mut Propagation, q: usize, c: Codes) -> Option<usize>
+    ensures { HeldIn (standing_of standing.entry) propagation.old.trail
+        → DecidedIn (standing_of standing.entry) (codes_left c.entry) propagation.new.trail result }
 {
-    let Outcome::Stable = ground(standing, trail, q, watches) else {
+    let Outcome::Stable = propagation.ground(standing, q) else {
         return Some(q);
     };
-    let base = trail.length;
+    let base = propagation.trail.length;
     let joined = Joined {
         c,
         d: none(standing.proof),
         skip: 0,
     };
-    if let Outcome::Stable = refute(standing, trail, watches, joined) {
-        if !is_rat(standing, trail, watches, c) {
+    if let Outcome::Stable = refute(standing, propagation, joined) {
+        if !is_rat(standing, propagation, c) {
             return None;
         }
     }
-    trail.undo(base);
+    propagation.trail.undo(base);
     Some(base)
 }

@@ -1,5 +1,5 @@
 use native.Mathlib.Omega.{arith}
-use mathlib.Core.Path.{◌≡◌, subst}
+use mathlib.Core.Path.{◌≡◌, ap, subst}
 use Prim.Native.Nat.{ℕ, ◌≤◌}
 use Rattle.trail.specs.declared.Trail.{Trail}
 use Rattle.trail.specs.Trail.{TrailedIn, UndoneIn}
@@ -30,8 +30,8 @@ returns c = λ h.
       | in-Stable-refute+else-not-is_rat w ↦
           let asked = rat_asked _ _ h _ _ _ c.in-Stable.is g _ c.none.ensures _ _ _ _ f w.in-Stable-refute.is in
           let t = w.is_rat.ensures asked.0 asked.1 in
-          added_rat _ _ h _ _ _ c.in-Stable.is g _ c.none.ensures _ _ _ _ f w.in-Stable-refute.is t _ (undone_as w.trail-is c.undo.ensures.undone t.0.ready.trailed (omega (arith, t.0.same, asked.2))) w.if-not-is_rat.false
+          added_rat _ _ h _ _ _ c.in-Stable.is g _ c.none.ensures _ _ _ _ f w.in-Stable-refute.is t _ (undone_as (ap (λ p. p.trail) w.propagation-is) c.undo.ensures.undone t.0.ready.trailed (omega (arith, t.0.same, asked.2))) w.if-not-is_rat.false
       | in_default-refute w ↦
           let m = added_moved _ _ h _ _ _ c.in-Stable.is g _ c.none.ensures _ _ _ _ f w.in_default-refute.is in
-          added_rup _ _ h _ _ _ c.in-Stable.is g _ c.none.ensures _ _ _ _ f _ w.in_default-refute.is (undone_as w.trail-is c.undo.ensures.undone m.ready.trailed m.up)
+          added_rup _ _ h _ _ _ c.in-Stable.is g _ c.none.ensures _ _ _ _ f _ w.in_default-refute.is (undone_as (ap (λ p. p.trail) w.propagation-is) c.undo.ensures.undone m.ready.trailed m.up)
     ]

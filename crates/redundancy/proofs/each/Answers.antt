@@ -3,15 +3,17 @@ use mathlib.Core.Path.{◌≡◌, sym, subst, ◌∙◌}
 use mathlib.Core.List.{List}
 use Prim.Native.Nat.{ℕ}
 use lib.IntN.{ℤ}
-use Rattle.trail.specs.declared.Trail.{Trail}
+use Rattle.propagation.specs.declared.Propagation.{Propagation}
 use Rattle.redundancy.proofs.AdditionLaws.{Walking, walking_start, walking_end, walking_off, walking_out, walking_yes, walking_no, follows_kept}
 use Rattle.redundancy.proofs.each.Goals as goal
 use Rattle.redundancy.proofs.each.Goals.{then-stands+then-holds+else-not-candidate, then-stands+else-holds, else-stands}
 
 -- the trail by another name
-at : {t ms : List ℤ} {count l : ℕ} {c t₀ : List ℕ} {n₀ k : ℕ} {a b : Trail} → b ≡ a → Walking t ms count l c t₀ n₀ a.falses a.literals a.length k
-    → Walking t ms count l c t₀ n₀ b.falses b.literals b.length k
-at {t} {ms} {count} {l} {c} {t₀} {n₀} {k} e w = subst (λ (x : Trail). Walking t ms count l c t₀ n₀ x.falses x.literals x.length k) (sym e) w
+at : {t ms : List ℤ} {count l : ℕ} {c t₀ : List ℕ} {n₀ k : ℕ} {a b : Propagation} → b ≡ a
+    → Walking t ms count l c t₀ n₀ a.trail.falses a.trail.literals a.trail.length k
+    → Walking t ms count l c t₀ n₀ b.trail.falses b.trail.literals b.trail.length k
+at {t} {ms} {count} {l} {c} {t₀} {n₀} {k} e w =
+    subst (λ (x : Propagation). Walking t ms count l c t₀ n₀ x.trail.falses x.trail.literals x.trail.length k) (sym e) w
 
 pub loop-k-init : goal.loop-k-init
 loop-k-init c = λ r h. walking_start _ _ _ _ _ _ _ _ r
@@ -24,12 +26,12 @@ returns-then-not-candidate c = λ r h.
 
 pub loop-k-preserved : goal.loop-k-preserved
 loop-k-preserved c = λ r h. let w = c.loop-k.invariant r h in elim c.if-stands.branch [
-  | then-stands+then-holds+else-not-candidate b ↦ at b.trail-is
+  | then-stands+then-holds+else-not-candidate b ↦ at b.propagation-is
       (walking_yes _ _ _ _ _ _ _ _ _ _ _ w (omega arith) (sym c.stands.ensures ∙ b.if-stands.true) _ _ b.clause-d.ensures c.flip-skip.ensures _ b.holds.ensures b.if-holds.true _ _ _ _
       (b.candidate.ensures w.tried.ready (follows_kept _ _ w.tried h)) b.if-not-candidate.false)
-  | then-stands+else-holds b ↦ at b.trail-is
+  | then-stands+else-holds b ↦ at b.propagation-is
       (walking_out _ _ _ _ _ _ _ _ _ _ _ w (omega arith) (sym c.stands.ensures ∙ b.if-stands.true) _ _ b.clause-d.ensures c.flip-skip.ensures _ b.holds.ensures b.if-holds.false)
-  | else-stands b ↦ at b.trail-is (walking_off _ _ _ _ _ _ _ _ _ _ _ w (omega arith) (sym c.stands.ensures ∙ b.if-stands.false))
+  | else-stands b ↦ at b.propagation-is (walking_off _ _ _ _ _ _ _ _ _ _ _ w (omega arith) (sym c.stands.ensures ∙ b.if-stands.false))
 ]
 
 pub returns : goal.returns

@@ -1,5 +1,5 @@
 use Rattle.propagation.proofs.HeldLaws.{held_turned}
-use Rattle.propagation.proofs.attach.Goals as goal
+use Rattle.propagation.proofs.Propagation.attach.Goals as goal
 
 pub returns-in-None : goal.returns-in-None
 returns-in-None c = λ h lt. held_turned h _ (c.watch_clause.ensures h.ready lt)

@@ -1,8 +1,8 @@
 use Rattle.propagation.proofs.AnswerLaws.{visited_clash, visited_moved, moved_on, clash_on, visited_stable}
-use Rattle.propagation.proofs.follow.Goals as goal
+use Rattle.propagation.proofs.Propagation.follow.Goals as goal
 
-pub returns-then-trail-i : goal.returns-then-trail-i
-returns-then-trail-i c = λ r. visited_stable (c.loop-i.invariant r)
+pub returns-then-self-i : goal.returns-then-self-i
+returns-then-self-i c = λ r. visited_stable (c.loop-i.invariant r)
 
 pub returns-in_default : goal.returns-in_default
 returns-in_default c = λ r.

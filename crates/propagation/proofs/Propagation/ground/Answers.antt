@@ -1,5 +1,5 @@
 use Rattle.propagation.proofs.AnswerLaws.{visited_moved, visited_on}
-use Rattle.propagation.proofs.ground.Goals as goal
+use Rattle.propagation.proofs.Propagation.ground.Goals as goal
 
 pub returns : goal.returns
 returns c = λ r.

@@ -1,7 +1,7 @@
 use native.Mathlib.Omega.{arith}
 use Rattle.propagation.proofs.AnswerLaws.{turned_clash, turned_moved, moved_on, moved_as, clash_on, visited_stable}
-use Rattle.propagation.proofs.walk.Goals as goal
-use Rattle.propagation.proofs.walk.Goals.{then-seems_true, else-seems_true+in-Some}
+use Rattle.propagation.proofs.Propagation.walk.Goals as goal
+use Rattle.propagation.proofs.Propagation.walk.Goals.{then-seems_true, else-seems_true+in-Some}
 
 pub returns-then-standing-k : goal.returns-then-standing-k
 returns-then-standing-k c = λ r. visited_stable (c.loop.invariant r)
@@ -14,9 +14,9 @@ returns-in_default c = λ r.
 
 pub loop-preserved : goal.loop-preserved
 loop-preserved c = λ r. elim c.if-seems_true.branch [
-  | then-seems_true w ↦ moved_as w.trail-is (c.loop.invariant r)
+  | then-seems_true w ↦ moved_as w.self-is (c.loop.invariant r)
   | else-seems_true+in-Some w ↦ let m = c.loop.invariant r in
-      moved_as w.trail-is (moved_on m (turned_moved w.in-Some.is (w.judge.ensures m.ready (omega arith))))
+      moved_as w.self-is (moved_on m (turned_moved w.in-Some.is (w.judge.ensures m.ready (omega arith))))
 ]
 
 pub returns : goal.returns

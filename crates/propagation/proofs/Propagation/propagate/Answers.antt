@@ -2,7 +2,7 @@ use native.Mathlib.Omega.{arith}
 use Rattle.trail.proofs.TrailLaws.{flip_small, assumed_up, never_full}
 use Rattle.propagation.proofs.MoveLaws.{moved_refl, moved_unit, read_clash}
 use Rattle.propagation.proofs.AnswerLaws.{visited_clash, visited_moved, moved_on, settle_clash, settle_good, scanned_falsified, scanned_unit, scanned_good}
-use Rattle.propagation.proofs.propagate.Goals as goal
+use Rattle.propagation.proofs.Propagation.propagate.Goals as goal
 
 pub returns-in_default : goal.returns-in_default
 returns-in_default c = λ r.

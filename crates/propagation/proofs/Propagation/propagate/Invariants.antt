@@ -1,0 +1,8 @@
+use Prim.Native.Nat.{◌≤◌}
+use Rattle.clauses.specs.Standing.{standing_of}
+use Rattle.trail.specs.Trail.{ReadyIn}
+use Rattle.propagation.specs.Answers.{Good, MovedIn}
+use Rattle.propagation.proofs.Propagation.propagate.Given as goal
+
+abbrev pub invariant-loop : goal.invariant-loop
+invariant-loop l = ReadyIn l.initial.self.trail → MovedIn (Good (standing_of l.standing)) l.initial.self.trail l.self.trail × (l.counter ≤ l.self.trail.length)
