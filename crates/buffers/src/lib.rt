@@ -8,12 +8,9 @@ ghost use Rattle.lists.specs.Lists.{listed_at};
 ghost use Rattle.lists.specs.Stores.{codes_at, puts};
 ghost use Rattle.buffers.specs.Buffers.{as_stored, StoresLine};
 
-use clauses::Store;
+use clauses::{PLACES, Store};
 use lists::Measure;
 use rules::Rule;
-
-// A place of a table below this, and as many more, are added without loss.
-const PLACES: usize = 1073741824;
 
 // The next token, as `lines::literal_at` reads it. Most tokens are plain, and the walk for those is short enough to be compiled into the loop below.
 fn token(line: &[u8], at: usize) -> Option<(u32, usize)>
@@ -64,10 +61,10 @@ pub fn store_line(
 ) -> Result<(), Rule>
     ensures { StoresLine line.now at n buffer.now table.old s result table.new }
 {
-    let from = clauses::written(s);
+    let from = s.written();
     if n < buffer.len() && buffer.len() <= PLACES && from <= PLACES {
         copy(&buffer[..=n], table, from);
         return Ok(());
     }
-    clauses::store_line(line, at, table, s)
+    s.store_line(line, at, table)
 }

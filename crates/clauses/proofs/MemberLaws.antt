@@ -1,10 +1,12 @@
 -- Members of a clause, as codes and as literals of the rules. Assumes nothing.
 use mathlib.Core.Path.{◌≡◌, refl, ◌∙◌, ap, ap₂}
-use mathlib.Core.Bool.{◌||◌}
+use mathlib.Core.Bool.{Bool, ◌||◌}
 use mathlib.Core.List.Memᴰ
 use mathlib.Core.List.{List, [], ◌∷◌, map}
 use Prim.Native.Nat.{ℕ}
+use Rattle.std.specs.List.{list_any}
 use lib.Dec.{eqb}
+use Rattle.lines.specs.Lists.{any}
 use Rattle.rules.specs.Basics.{is_in}
 use Rattle.rules.specs.Literals.{same, holds}
 use Rattle.rules.specs.Codes.{lit_of}
@@ -29,3 +31,8 @@ same_lit m x = same_code (lit_of m) (lit_of x) ∙ ap₂ eqb (code_lit m) (code_
 pub holds_lit : (d : List ℕ) (x : ℕ) → holds (map lit_of d) (lit_of x) ≡ is_in d x
 holds_lit [] x = refl
 holds_lit (m ∷ d) x = ap₂ (λ a b. a || b) (same_lit x m) (holds_lit d x)
+
+-- a test of some, as std has it
+pub any_listed : {A : Type 0} (p : A → Bool) (xs : List A) → list_any p xs ≡ any p xs
+any_listed p [] = refl
+any_listed p (x ∷ xs) = ap (λ b. p x || b) (any_listed p xs)

@@ -1,6 +1,6 @@
 -- Laws of the list of standing clauses, place by place. Assumes nothing.
 use mathlib.Core.Path.{◌≡◌, refl, sym, ◌∙◌, ap, ap₂, subst}
-use mathlib.Core.Bool.{Bool, true, false, not, cond, ◌||◌}
+use mathlib.Core.Bool.{Bool, true, false, not, cond, ◌&&◌, ◌||◌}
 use mathlib.Core.List.Memᴰ
 use mathlib.Core.List.{List, [], ◌∷◌, ◌++◌, map, append-nil}
 use Prim.Native.Nat.{ℕ, zero, suc, ◌+◌, ◌-◌, ◌/◌, ◌%◌, ◌<◌, ◌≤◌}
@@ -8,6 +8,7 @@ use native.Mathlib.Omega.{arith}
 use lib.Dec.{eqb, leb, ltb}
 use lib.IntN.{ℤ, pos}
 use lib.ListN.{length, get_or, length-append, get_or-append}
+use Rattle.std.specs.List.{list_any, range_with_len}
 use lib.Seq.{set_out, get_or-append_seam}
 use borrow.Author.Tests.{eqb-true, eqb-false, eq-eqb, leb-true, leb-false, ltb-true, ltb-false}
 use Rattle.cells.specs.Cells.{cell_at, list_at, Kept}
@@ -17,7 +18,7 @@ use Rattle.rules.specs.Basics.{without_first}
 use Rattle.rules.specs.Literals.{Lits}
 use Rattle.rules.specs.Codes.{code_of, lit_of}
 use Rattle.rules.proofs.CodesLaw.{lits_codes}
-use Rattle.rules.proofs.Kit.{In, either, clear, by_yes, in_any, any_in, or_fl, or_fr, and_l, and_r, and_i}
+use Rattle.rules.proofs.Kit.{In, either, clear, by_yes, in_any, any_in, or_fl, or_fr}
 use Rattle.clauses.specs.declared.Store.{Store}
 use Rattle.clauses.specs.Standing.{stands, NoneIn, clause_at, standing, literals, places_of, marks_need, removed, empty_at, has_empty, Filled}
 
@@ -89,32 +90,39 @@ module _ (t ms : List ℤ) where
       last false e y = absurd (Memᴰ.not-nil y)
 
 -- AN EMPTY CLAUSE
-in_map : {A B : Type 0} (f : A → B) {x : A} {xs : List A} → In x xs → In (f x) (map f xs)
-in_map f (Memᴰ.head e) = Memᴰ.head (ap f e)
-in_map f (Memᴰ.tail m) = Memᴰ.tail (in_map f m)
+map_append : {A B : Type 0} (f : A → B) (xs ys : List A) → map f (xs ++ ys) ≡ map f xs ++ map f ys
+map_append f [] ys = refl
+map_append f (x ∷ xs) ys = ap (λ l. f x ∷ l) (map_append f xs ys)
 
-map_in : {A B : Type 0} (f : A → B) (y : B) (xs : List A) → In y (map f xs) → (x : A) × In x xs × (y ≡ f x)
-map_in f y [] m = elim m [ ]
-map_in f y (x ∷ xs) (Memᴰ.head e) = (x, Memᴰ.head refl, e)
-map_in f y (x ∷ xs) (Memᴰ.tail m) = let r = map_in f y xs m in (r.0, Memᴰ.tail r.1, r.2)
+any_append : {A : Type 0} (p : A → Bool) (xs ys : List A) → any p (xs ++ ys) ≡ (any p xs || any p ys)
+any_append p [] ys = refl
+any_append p (x ∷ xs) ys = ap (λ b. p x || b) (any_append p xs ys) ∙ grind arith
 
-empty_lits : (c : List ℕ) → is_empty (map lit_of c) ≡ is_empty c
-empty_lits [] = refl
-empty_lits (x ∷ c) = refl
+module _ (p : ℕ → Bool) where
+  -- a test of the numbers from a on, by their last
+  any_more : (a n : ℕ) → list_any p (range_with_len a (suc n)) ≡ (list_any p (range_with_len a n) || p (a + n))
+  any_more a zero = grind arith
+  any_more a (suc n) = let e : a + 1 + n ≡ a + suc n = omega arith in
+      ap (λ b. p a || b) (any_more (a + 1) n ∙ ap (λ k. list_any p (range_with_len (a + 1) n) || p k) e)
+      ∙ grind arith
 
-module _ (t ms : List ℤ) (n : ℕ) where
-  pub empty_found : (k : ℕ) → k < n → empty_at t ms k ≡ true → true ≡ has_empty (standing t ms n)
-  empty_found k h e =
-      sym (in_any is_empty (in_map (map lit_of) (standing_in_lem t ms n k h (and_l (stands t ms k) (is_empty (clause_at t ms k)) e)))
-      (empty_lits (clause_at t ms k) ∙ and_r (stands t ms k) (is_empty (clause_at t ms k)) e))
+module _ (t ms : List ℤ) where
+  empty_part : (k : ℕ) → empty_at t ms k ≡ has_empty (part t ms k)
+  empty_part k = go (stands t ms k) (clause_at t ms k)
+    where
+      go : (b : Bool) (c : List ℕ) → (b && is_empty c) ≡ has_empty (cond b (c ∷ []) [])
+      go true [] = refl
+      go true (x ∷ c) = refl
+      go false c = refl
 
-  pub empty_none : ((k : ℕ) → k < n → empty_at t ms k ≡ true → ⊥) → false ≡ has_empty (standing t ms n)
-  empty_none h = sym (by_yes (has_empty (standing t ms n)) λ e.
-      let s = any_in is_empty (literals (standing t ms n)) e in
-      let m = map_in (map lit_of) s.0 (standing t ms n) s.1 in
-      let k = standing_out t ms n m.0 m.1 in
-      h k.0 k.1 (and_i (stands t ms k.0) (is_empty (clause_at t ms k.0)) k.2
-      (ap is_empty (sym k.3) ∙ sym (empty_lits m.0) ∙ ap is_empty (sym m.2) ∙ s.2)))
+  pub empty_listed : (n : ℕ) → list_any (empty_at t ms) (range_with_len 0 n) ≡ has_empty (standing t ms n)
+  unfolding standing
+  empty_listed zero = refl
+  empty_listed (suc n) =
+      any_more (empty_at t ms) 0 n
+      ∙ ap₂ (λ (a b : Bool). a || b) (empty_listed n) (let e : 0 + n ≡ n = omega arith in ap (empty_at t ms) e ∙ empty_part n)
+      ∙ sym (any_append is_empty (literals (standing t ms n)) (literals (part t ms n)))
+      ∙ sym (ap (any is_empty) (map_append (map lit_of) (standing t ms n) (part t ms n)))
 
 -- OTHER MARKS
 pub standing_marks : (t ms ms' : List ℤ) (n : ℕ) → ((k : ℕ) → k < n → cell_at ms' k ≡ cell_at ms k) → standing t ms' n ≡ standing t ms n
@@ -227,10 +235,6 @@ module _ (p : List ℕ → Bool) (t ms : List ℤ) (k : ℕ) (on : stands t ms k
       go false q more = let z : k < n = omega (arith, eqb-false n k q) in step n (eqb-false n k q) z (more z)
 
 -- ONE CLAUSE MORE, as the rules' clauses
-map_append : {A B : Type 0} (f : A → B) (xs ys : List A) → map f (xs ++ ys) ≡ map f xs ++ map f ys
-map_append f [] ys = refl
-map_append f (x ∷ xs) ys = ap (λ l. f x ∷ l) (map_append f xs ys)
-
 pub literals_more : (S : List (List ℕ)) (c : Lits) → literals (S ++ (map code_of c ∷ [])) ≡ literals S ++ (c ∷ [])
 literals_more S c = map_append (map lit_of) S (map code_of c ∷ []) ∙ ap (λ x. literals S ++ (x ∷ [])) (lits_codes c)
 

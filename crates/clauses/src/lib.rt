@@ -1,8 +1,9 @@
 // The clauses of a certificate in the proof and marks tables. This crate alone knows how they stand there; a clause is named by its place.
 #![tactic(auto)]
 
-ghost use Rattle.std.specs.Prelude.{◌≡◌, [], ◌+◌, ◌<◌};
+ghost use Rattle.std.specs.Prelude.{◌≡◌, [], ◌+◌, ◌<◌, cond};
 ghost use Rattle.rules.specs.Basics.{is_in};
+ghost use Rattle.rules.specs.Rule.{broken};
 ghost use Rattle.lists.specs.Stores.{ending_at};
 ghost use Rattle.cells.specs.Codes.{codes_left};
 ghost use Rattle.clauses.specs.Standing.{standing_of, stands_at, clause_of, empty_of, has_empty};
@@ -10,6 +11,9 @@ ghost use Rattle.clauses.specs.Standing.{places_of, empty_above, pending, writte
 
 use cells::{Codes, cell, put};
 use rules::Rule;
+
+// The places of a table that are in use are fewer: two of them, or twice one, and 1 more are a sum without loss.
+pub const PLACES: usize = 1073741824;
 
 // The places of the proof table in use, and the number of clauses stored.
 #[derive(Clone, Copy)]
@@ -24,6 +28,79 @@ pub struct Standing<'a> {
     pub proof: &'a [i32],
     pub marks: &'a [i32],
     pub count: usize,
+}
+
+impl Store {
+    // An empty store above the first n places of the proof table.
+    pub fn above(n: usize) -> Store
+        ensures { result ≡ empty_above n }
+    {
+        Store { used: n, count: 0 }
+    }
+
+    // The clauses have the places below this.
+    pub fn places(self) -> usize
+        ensures { result ≡ places_of self }
+    {
+        self.count
+    }
+
+    // The clauses as they stand in these tables.
+    pub fn standing<'a>(self, proof: &'a [i32], marks: &'a [i32]) -> Standing<'a>
+        ensures proof { result.proof.now ≡ proof.now }
+        ensures marks { result.marks.now ≡ marks.now }
+        ensures count { result.count ≡ places_of self }
+    {
+        Standing {
+            proof,
+            marks,
+            count: self.count,
+        }
+    }
+
+    // Whether a clause of n literals more has its places in tables of these lengths.
+    pub fn fits(self, n: usize, proof: usize, marks: usize) -> bool
+        ensures { result ≡ room_for self n proof marks }
+    {
+        n < proof.saturating_sub(self.used) && self.count < marks
+    }
+
+    // The literals of a line from place `at` of its text on become the pending clause, which is written where the proof table is free.
+    pub fn store_line(self, line: &[u8], at: usize, table: &mut [i32]) -> Result<(), Rule>
+        ensures { (table.new ≡ stored line.now at self table.old)
+            × (result ≡ ending_at line.now at) }
+    {
+        lists::store_list(line, at, table, self.used)
+    }
+
+    // The pending clause.
+    pub fn pending(self, table: &[i32]) -> Codes<'_>
+        ensures { codes_left result ≡ pending table.now self }
+    {
+        Codes::new(table, self.used)
+    }
+
+    // Where the pending clause's codes stand in the proof table, one in a place, up to a 0.
+    pub fn written(self) -> usize
+        ensures { result ≡ written_at self }
+    {
+        self.used
+    }
+
+    // The pending clause, of n literals, stands from now on.
+    pub fn stand(self, marks: &mut [i32], n: usize) -> Store
+        ensures { StandsNow marks.old marks.new self n result }
+    {
+        let used = self.used % PLACES;
+        if self.count < marks.len() {
+            put(marks, self.count, (2 * used + 1) as u32);
+            return Store {
+                used: used + n % PLACES + 1,
+                count: self.count + 1,
+            };
+        }
+        self
+    }
 }
 
 impl<'a> Standing<'a> {
@@ -46,37 +123,26 @@ impl<'a> Standing<'a> {
     fn empty_at(self, k: usize) -> bool
         ensures { result ≡ empty_of self.entry k }
     {
-        if self.stands(k) {
-            return self.clause(k).next().is_none();
-        }
-        false
+        self.stands(k) && self.clause(k).next().is_none()
     }
 
     // Whether an empty clause stands.
     pub fn empty_stands(self) -> bool
         ensures { result ≡ has_empty (standing_of self.entry) }
     {
-        for k in 0..self.count {
-            if self.empty_at(k) {
-                return true;
-            }
-        }
-        false
+        (0..self.count).any(|k| self.empty_at(k))
     }
-}
 
-// An empty store above the first n places of the proof table.
-pub fn above(n: usize) -> Store
-    ensures { result ≡ empty_above n }
-{
-    Store { used: n, count: 0 }
-}
-
-// The clauses have the places below this.
-pub fn places(s: Store) -> usize
-    ensures { result ≡ places_of s }
-{
-    s.count
+    // The test at a certificate's end: an empty clause must stand.
+    pub fn closed(self) -> Result<(), Rule>
+        ensures { broken result ≡ cond (has_empty (standing_of self.entry)) 0 14 }
+    {
+        if self.empty_stands() {
+            Ok(())
+        } else {
+            Err(Rule::NotClosed)
+        }
+    }
 }
 
 // A clause without literals.
@@ -87,64 +153,10 @@ pub fn none(table: &[i32]) -> Codes<'_>
 }
 
 // Whether a clause holds the literal l.
-pub fn holds(clause: Codes, l: u32) -> bool
+pub fn holds(mut clause: Codes, l: u32) -> bool
     ensures { result ≡ is_in (codes_left clause.entry) l }
 {
-    for m in clause {
-        if l == m {
-            return true;
-        }
-    }
-    false
-}
-
-// Whether a clause of n literals more has its places in tables of these lengths.
-pub fn fits(s: Store, n: usize, proof: usize, marks: usize) -> bool
-    ensures { result ≡ room_for s n proof marks }
-{
-    if s.used < proof {
-        if n < proof - s.used {
-            return s.count < marks;
-        }
-    }
-    false
-}
-
-// The literals of a line from place `at` of its text on become the pending clause, which is written where the proof table is free.
-pub fn store_line(line: &[u8], at: usize, table: &mut [i32], s: Store) -> Result<(), Rule>
-    ensures { (table.new ≡ stored line.now at s table.old)
-        × (result ≡ ending_at line.now at) }
-{
-    lists::store_list(line, at, table, s.used)
-}
-
-// The pending clause.
-pub fn pending(table: &[i32], s: Store) -> Codes<'_>
-    ensures { codes_left result ≡ pending table.now s }
-{
-    Codes::new(table, s.used)
-}
-
-// Where the pending clause's codes stand in the proof table, one in a place, up to a 0.
-pub fn written(s: Store) -> usize
-    ensures { result ≡ written_at s }
-{
-    s.used
-}
-
-// The pending clause, of n literals, stands from now on.
-pub fn stand(marks: &mut [i32], s: Store, n: usize) -> Store
-    ensures { StandsNow marks.old marks.new s n result }
-{
-    let used = s.used % 1073741824;
-    if s.count < marks.len() {
-        put(marks, s.count, (2 * used + 1) as u32);
-        return Store {
-            used: used + n % 1073741824 + 1,
-            count: s.count + 1,
-        };
-    }
-    s
+    clause.any(|m| l == m)
 }
 
 // The clause at place k stands no more.

@@ -1,18 +1,12 @@
-use borrow.Author.Count.{below_more}
-use mathlib.Core.Path.{sym, ◌∙◌}
-use native.Mathlib.Omega.{arith}
-use Rattle.rules.proofs.Kit.{clear}
-use Rattle.clauses.proofs.StandingLaws.{empty_found, empty_none}
+use Rattle.std.proofs.Common.{rules, tests, refl, arith, ◌≡◌, ◌-◌, ◌∙◌}
+use Rattle.std.proofs.lemmas.Iterator.Search.{any_from_yields_List}
+use Rattle.std.proofs.lemmas.Iterator.{YieldsList-from_range}
+use Rattle.clauses.specs.Standing.{empty_of}
+use Rattle.clauses.proofs.StandingLaws.{empty_listed}
 use Rattle.clauses.proofs.Standing.empty_stands.Goals as goal
 
-pub loop-k-init : goal.loop-k-init
-loop-k-init c = λ j h e. omega arith
-
-pub returns-then-empty_at : goal.returns-then-empty_at
-returns-then-empty_at c = empty_found _ _ _ _ (omega arith) (sym c.empty_at.ensures ∙ c.if-empty_at.true)
-
-pub loop-k-preserved : goal.loop-k-preserved
-loop-k-preserved c = below_more _ _ c.loop-k.invariant λ e. clear e (sym c.empty_at.ensures ∙ c.if-empty_at.false)
-
 pub returns : goal.returns
-returns c = empty_none _ _ _ λ j h e. c.loop-k.invariant j (omega arith) e
+returns c =
+    let n = c.args.self.count in
+    let e : n - 0 ≡ n = omega arith in
+    any_from_yields_List (empty_of c.args.self) _ _ _ c.any.ensures.ran (YieldsList-from_range 0 n n refl e) (λ x b q k. search (rules, tests)) ∙ empty_listed _ _ _

@@ -1,5 +1,5 @@
 use Rattle.clauses.specs.Standing.{pending}
-use Rattle.clauses.proofs.pending.Goals as goal
+use Rattle.clauses.proofs.Store.pending.Goals as goal
 
 pub returns : goal.returns
 unfolding pending

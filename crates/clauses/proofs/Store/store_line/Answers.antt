@@ -1,5 +1,5 @@
 use Rattle.clauses.specs.Standing.{stored}
-use Rattle.clauses.proofs.store_line.Goals as goal
+use Rattle.clauses.proofs.Store.store_line.Goals as goal
 
 pub returns : goal.returns
 unfolding stored

@@ -2,10 +2,10 @@ use native.Mathlib.Omega.{arith}
 use mathlib.Core.Path.{refl}
 use Rattle.clauses.specs.Standing.{marks_need, grown}
 use Rattle.clauses.proofs.StoreLaws.{stands_now}
-use Rattle.clauses.proofs.stand.Goals as goal
+use Rattle.clauses.proofs.Store.stand.Goals as goal
 
-pub returns-then-s-marks : goal.returns-then-s-marks
-returns-then-s-marks c = λ l m. stands_now _ _ _ _ l m c.put.ensures refl
+pub returns-then-self-marks : goal.returns-then-self-marks
+returns-then-self-marks c = λ l m. stands_now _ _ _ _ l m c.put.ensures refl
 
 pub returns : goal.returns
 unfolding marks_need grown
