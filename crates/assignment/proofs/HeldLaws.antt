@@ -240,14 +240,17 @@ module _ (s h : List ℕ) (n : ℕ) (held : Held s h n) where
         go true l false f = absurd (clear (bare l f) e)
 
 -- arrays without a mark hold nothing
-pub holds_none : (s h : List ℕ) → Unmarked s → 8194 ≤ length h → Held s h 0
+pub holds_none : (s h : List ℕ) {n : ℕ} → Unmarked s → 8194 ≤ length h → n ≡ 0 → Holds s h n []
 unfolding listed
-holds_none s h u l = record {
-  marked = u.none;
-  room = omega (arith, zeros_all 8194 s);
-  long = u.long;
-  long_list = l;
-}
+holds_none s h u l e = subst (λ k. Holds s h k []) (sym e) (record {
+  held = record {
+    marked = u.none;
+    room = omega (arith, zeros_all 8194 s);
+    long = u.long;
+    long_list = l;
+  };
+  codes = refl;
+})
 
 -- TAKING BACK: only the first i places of h are marked in s
 pub record Left (s h : List ℕ) (i : ℕ) : Type 0 where

@@ -1,6 +1,7 @@
 -- What the least t holds, as contracts name it. Assumes nothing.
-use Rattle.std.specs.Prelude.{◌≡◌, List, ℕ}
+use Rattle.std.specs.Prelude.{◌≡◌, List, ℕ, ◌≤◌, length}
 use Rattle.assignment.specs.declared.least.Least.{Least}
+use Rattle.copies.specs.Marks.{Unmarked}
 use Rattle.assignment.specs.Held.{listed, Held, Holds}
 
 -- its codes, the last one first
@@ -13,6 +14,10 @@ HeldIn t = Held t.seen.now t.held.now t.count
 
 abbrev pub HoldsIn : Least → List ℕ → Type 0
 HoldsIn t ys = Holds t.seen.now t.held.now t.count ys
+
+-- nothing is held, and there is room for every code of a formula's literal
+abbrev pub IsEmpty : Least → Type 0
+IsEmpty t = Unmarked t.seen.now × (8194 ≤ length t.held.now) × (t.count ≡ 0)
 
 -- the arrays that are lent are the same two
 abbrev pub SameArrays : Least → Least → Type 0

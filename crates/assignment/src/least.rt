@@ -1,12 +1,6 @@
 // The least t: the negations of the clause's universal literals and the annotations of the line's copies, each literal once.
-ghost use Rattle.std.specs.Prelude.{◌≡◌, [], ◌∷◌, ◌<◌, ◌≤◌, get_or};
-ghost use Rattle.rules.specs.Basics.{is_in};
+ghost use Rattle.std.specs.Prelude.{◌≡◌, ◌<◌, ◌≤◌, get_or, length};
 ghost use Rattle.rules.specs.Codes.{flip};
-ghost use Rattle.copies.specs.Marks.{Unmarked};
-ghost use Rattle.copies.specs.Copies.{words, annotation_in, list_in, line_in};
-ghost use Rattle.assignment.specs.Held.{is_new, adding, joined};
-ghost use Rattle.assignment.specs.Least.{items_of, HeldIn, HoldsIn, SameArrays};
-ghost use Rattle.assignment.specs.Annotations.{apart, negations, annotations_of, part_size};
 
 use cells::Codes;
 use copies::View;
@@ -18,6 +12,7 @@ pub struct Least<'a> {
     pub seen: &'a mut [u8],
     pub held: &'a mut [u16],
     pub count: usize,
+    pub ghost room: { (count ≤ 8194) × (count ≤ length held.now) },
 }
 
 // The code of the negation.
@@ -36,6 +31,26 @@ fn code_at(held: &[u16], i: usize) -> usize
 }
 
 impl<'a> Least<'a> {
+    ghost use Rattle.std.specs.Prelude.{◌≡◌, [], ◌∷◌, ◌<◌, ◌≤◌, get_or};
+    ghost use Rattle.rules.specs.Basics.{is_in};
+    ghost use Rattle.copies.specs.Copies.{words, annotation_in, list_in, line_in};
+    ghost use Rattle.assignment.specs.Held.{is_new, adding, joined};
+    ghost use Rattle.assignment.specs.Least.{items_of, HeldIn, HoldsIn, IsEmpty, SameArrays};
+    ghost use Rattle.assignment.specs.Annotations.{apart, negations, annotations_of, part_size};
+
+    // Without a literal, in two arrays that are lent.
+    pub fn new(seen: &'a mut [u8], held: &'a mut [u16]) -> Least<'a>
+        ensures lent { (result.seen.ghost_name ≡ seen.entry.ghost_name) × (result.held.ghost_name ≡ held.entry.ghost_name) }
+        ensures now { (result.seen.now ≡ seen.old) × (result.held.now ≡ held.old) }
+        ensures none { result.count ≡ 0 }
+    {
+        Least {
+            seen,
+            held,
+            count: 0,
+        }
+    }
+
     // The same of the list that is held.
     fn code(&self, i: usize) -> usize
         ensures { (result ≡ get_or self.now.held.now i 0) × (result < 65536) }
@@ -55,8 +70,6 @@ impl<'a> Least<'a> {
 
     // Adds a literal, unless it is there.
     fn add(&mut self, y: usize)
-        requires { self.old.count ≤ 8194 }
-        ensures room { self.new.count ≤ 8194 }
         ensures lent { SameArrays self.old self.new }
         ensures held { HeldIn self.old → HoldsIn self.new (adding (items_of self.old) y) }
     {
@@ -74,8 +87,6 @@ impl<'a> Least<'a> {
 
     // Adds the literals from place a of the map on.
     fn join(&mut self, map: &[i32], a: usize)
-        requires { self.old.count ≤ 8194 }
-        ensures room { self.new.count ≤ 8194 }
         ensures lent { SameArrays self.old self.new }
         ensures held { HeldIn self.old → HoldsIn self.new (joined (items_of self.old) (list_in map.now a)) }
     {
@@ -86,8 +97,6 @@ impl<'a> Least<'a> {
 
     // Adds the annotations of the line's copies. Copies of one mapping line, which often follow each other, share the place of theirs.
     pub fn join_annotations(&mut self, view: View)
-        requires { self.old.count ≤ 8194 }
-        ensures room { self.new.count ≤ 8194 }
         ensures lent { SameArrays self.old self.new }
         ensures held { HeldIn self.old
             → HoldsIn self.new (joined (items_of self.old) (annotations_of (annotation_in view.entry) (line_in view.entry))) }
@@ -104,8 +113,7 @@ impl<'a> Least<'a> {
 
     // Adds the negation of y if it is universal.
     fn join_negation(&mut self, view: View, y: usize)
-        requires { (self.old.count ≤ 8194) × (y < 65536) }
-        ensures room { self.new.count ≤ 8194 }
+        requires { y < 65536 }
         ensures lent { SameArrays self.old self.new }
         ensures held { HeldIn self.old → HoldsIn self.new (joined (items_of self.old) (negations (words view.entry) (y ∷ []))) }
     {
@@ -116,8 +124,6 @@ impl<'a> Least<'a> {
 
     // Adds the negations of the clause's universal literals.
     pub fn join_negations(&mut self, view: View, matrix: &[i32], c: usize)
-        requires { self.old.count ≤ 8194 }
-        ensures room { self.new.count ≤ 8194 }
         ensures lent { SameArrays self.old self.new }
         ensures held { HeldIn self.old
             → HoldsIn self.new (joined (items_of self.old) (negations (words view.entry) (list_in matrix.now c))) }
@@ -149,7 +155,6 @@ impl<'a> Least<'a> {
 
     // How many of the literals are of universals that e depends on.
     pub fn part_size(&self, view: View, e: usize) -> usize
-        requires { self.now.count ≤ 8194 }
         ensures { (result ≡ part_size (words view.entry) (items_of self.now) e) × (result ≤ 8194) }
     {
         let mut k: usize = 0;
@@ -162,15 +167,15 @@ impl<'a> Least<'a> {
         k
     }
 
-    // The marks of the literals in the list are taken back.
+    // Takes all literals out, and their marks back.
     pub fn take_back(&mut self)
         ensures lent { SameArrays self.old self.new }
-        ensures kept { (self.new.held.now ≡ self.old.held.now) × (self.new.count ≡ self.old.count) }
-        ensures unmarked { HeldIn self.old → Unmarked self.new.seen.now }
+        ensures empty { HeldIn self.old → IsEmpty self.new }
     {
         for i in (0..self.count).rev() {
             let y = self.code(i);
             cells::set_at(self.seen, y, 0);
         }
+        self.count = 0;
     }
 }

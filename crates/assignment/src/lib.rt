@@ -1,14 +1,13 @@
 // The annotations of the line's copies against the least t: each as long as the part of t that the copy's existential depends on.
 #![tactic(auto)]
 
-mod least;
+pub mod least;
 
-ghost use Rattle.std.specs.Prelude.{◌≡◌, cond, false, ◌+◌, ◌<◌, ◌≤◌, length};
+ghost use Rattle.std.specs.Prelude.{◌≡◌, cond, false, length};
 ghost use Rattle.lines.specs.Lists.{all};
-ghost use Rattle.copies.specs.Marks.{Unmarked};
 ghost use Rattle.copies.specs.Copies.{words, stands_in, annotation_in, list_in, line_in};
 ghost use Rattle.assignment.specs.Held.{Noted};
-ghost use Rattle.assignment.specs.Least.{items_of, HeldIn};
+ghost use Rattle.assignment.specs.Least.{items_of, HeldIn, IsEmpty, SameArrays};
 ghost use Rattle.assignment.specs.Annotations.{apart, part_size, is_part, copy_fits, annotations_fit};
 
 use cells::Codes;
@@ -24,7 +23,7 @@ const LONG: usize = 64;
 // How many literals of t are of universals that e depends on. One more than that is noted for each existential that has a place in `sizes`;
 // 0 is noted where it was not counted yet.
 fn size_of(sizes: &mut [u16], view: View, least: &Least, e: usize) -> usize
-    requires { (least.now.count ≤ 8194) × Noted (part_size (words view) (items_of least.now)) sizes.old }
+    requires { Noted (part_size (words view) (items_of least.now)) sizes.old }
     ensures { (result ≡ part_size (words view.entry) (items_of least.now) e)
         × Noted (part_size (words view.entry) (items_of least.now)) sizes.new }
 {
@@ -41,7 +40,7 @@ fn size_of(sizes: &mut [u16], view: View, least: &Least, e: usize) -> usize
 
 // Whether `long` literals within e's part of t are all of it.
 fn is_part(sizes: &mut [u16], view: View, least: &Least, e: usize, long: usize) -> bool
-    requires { (least.now.count ≤ 8194) × Noted (part_size (words view) (items_of least.now)) sizes.old }
+    requires { Noted (part_size (words view) (items_of least.now)) sizes.old }
     ensures { (result ≡ is_part (words view.entry) (items_of least.now) e long)
         × Noted (part_size (words view.entry) (items_of least.now)) sizes.new }
 {
@@ -71,7 +70,7 @@ fn length_next(map: &[i32], last: usize, long: usize, a: usize) -> usize
 
 // Each copy's annotation is as long as its part of t.
 fn copies_fit(sizes: &mut [u16], view: View, least: &Least) -> bool
-    requires { (least.now.count ≤ 8194) × Noted (part_size (words view) (items_of least.now)) sizes.old }
+    requires { Noted (part_size (words view) (items_of least.now)) sizes.old }
     ensures { result ≡ all (copy_fits (words view.entry) (stands_in view.entry) (annotation_in view.entry) (items_of least.now)) (line_in view.entry) }
 {
     let mut last = view.map.len();
@@ -89,13 +88,12 @@ fn copies_fit(sizes: &mut [u16], view: View, least: &Least) -> bool
 }
 
 // The same, and t has no literal together with its negation. In a line of few literals nothing is noted, since a small array is soon cleared.
-fn fit_least(view: View, size: usize, least: &Least) -> bool
-    requires { least.now.count ≤ 8194 }
+fn fit_least(view: View, least: &Least) -> bool
     ensures { HeldIn least.now → result ≡ cond (apart (items_of least.now))
         (all (copy_fits (words view.entry) (stands_in view.entry) (annotation_in view.entry) (items_of least.now)) (line_in view.entry)) false }
 {
     if least.one_signed() {
-        if size < LONG {
+        if view.size < LONG {
             let mut none = [0u16; 1];
             return copies_fit(&mut none, view, least);
         }
@@ -105,29 +103,18 @@ fn fit_least(view: View, size: usize, least: &Least) -> bool
     false
 }
 
-// The line's copies are annotated by one assignment that makes the clause's universal literals false. The arrays are lent: `seen` without a
-// mark, and left so. How many literals the line has, `size`, decides the way and not the answer.
-pub fn annotations_fit(
-    view: View,
-    size: usize,
-    matrix: &[i32],
-    c: usize,
-    seen: &mut [u8],
-    held: &mut [u16],
-) -> bool
-    ensures { Unmarked seen.old → 8194 ≤ length held.old
+// The line's copies are annotated by one assignment that makes the clause's universal literals false. Nothing is held in `least`, before and
+// after.
+pub fn annotations_fit(view: View, matrix: &[i32], c: usize, least: &mut Least) -> bool
+    ensures lent { SameArrays least.old least.new }
+    ensures answer { IsEmpty least.old
         → (result ≡ annotations_fit (words view.entry) (stands_in view.entry)
         (annotation_in view.entry) (line_in view.entry) (list_in matrix.now c))
-        × Unmarked seen.new }
+        × IsEmpty least.new }
 {
-    let mut least = Least {
-        seen,
-        held,
-        count: 0,
-    };
     least.join_negations(view, matrix, c);
     least.join_annotations(view);
-    let fits = fit_least(view, size, &least);
+    let fits = fit_least(view, least);
     least.take_back();
     fits
 }

@@ -10,9 +10,10 @@ ghost use Rattle.prefix.specs.Prefix.{entry};
 ghost use Rattle.copies.specs.Copies.{annotation_at, image_of, images_of, stands_in, line_in};
 
 use cells::Codes;
+use tables::LentTables;
 
 // A line's copies as the tables show them: the prefix, the values of the copies and the map, and the line's codes, which stand in `proof`
-// from place `line` on, up to a 0.
+// from place `line` on, up to a 0. How many literals the line has, `size`, decides the way of a test and not its answer.
 #[derive(Clone, Copy)]
 pub struct View<'a> {
     pub prefix: &'a [i32],
@@ -20,9 +21,29 @@ pub struct View<'a> {
     pub map: &'a [i32],
     pub proof: &'a [i32],
     pub line: usize,
+    pub size: usize,
 }
 
 impl<'a> View<'a> {
+    // Of the line of `size` literals whose codes stand from place `line` on.
+    pub fn of(tables: &'a LentTables, line: usize, size: usize) -> View<'a>
+        ensures prefix { result.prefix.now ≡ tables.now.prefix.now }
+        ensures values { result.values.now ≡ tables.now.values.now }
+        ensures map { result.map.now ≡ tables.now.map.now }
+        ensures proof { result.proof.now ≡ tables.now.proof.now }
+        ensures line { result.line ≡ line }
+        ensures size { result.size ≡ size }
+    {
+        View {
+            prefix: tables.prefix,
+            values: tables.values,
+            map: tables.map,
+            proof: tables.proof,
+            line,
+            size,
+        }
+    }
+
     // The line's codes, one after the other.
     pub fn codes(self) -> Codes<'a>
         ensures { codes_left result ≡ line_in self.entry }

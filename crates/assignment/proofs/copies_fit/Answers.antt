@@ -10,7 +10,7 @@ use Rattle.assignment.proofs.copies_fit.Goals as goal
 
 pub loop-x-init : goal.loop-x-init
 loop-x-init c = record {
-  noted = c.requires.1;
+  noted = c.requires;
   long = long_past _;
   fits =
       ap (λ s. all (copy_fits (words c.args.view) (stands_in c.args.view) (annotation_in c.args.view) (items_of c.args.least.now)) (codes_left s))

@@ -1,6 +1,5 @@
-use mathlib.Core.Path.{refl, sym, subst, ◌∙◌}
-use native.Mathlib.Omega.{arith}
-use Rattle.copies.specs.Marks.{Unmarked}
+use Rattle.std.proofs.Common.{rules}
+use mathlib.Core.Path.{refl, sym, ◌∙◌}
 use Rattle.expansion.specs.Codes.{expands_at, expands_any}
 use Rattle.literals.proofs.Arms.{first_unfit}
 use Rattle.expansion.proofs.Arms.{expands_no}
@@ -10,30 +9,38 @@ use Rattle.expansion.proofs.expands_any.Goals as goal
 
 pub loop-i-init : goal.loop-i-init
 unfolding expands_any
-loop-i-init c = λ u h. (u, any_start (expands_at _ _ _ _ _ _) _ _)
+loop-i-init c = record { lent = (refl, refl); answer = λ e. (e, any_start (expands_at _ _ _ _ _ _) _ _) }
 
-pub returns-then-expands : goal.returns-then-expands
-returns-then-expands c = λ u h.
-    let v = c.loop-i.invariant u h in
-    let x = c.expands.ensures v.0 (omega (arith, h, c.loop-i.auto.held)) in
+pub returns-then-expands-clause-answer : goal.returns-then-expands-clause-answer
+returns-then-expands-clause-answer c = λ e.
+    let v = c.loop-i.invariant.answer e in
+    let x = c.expands.ensures.answer v.0 in
     (any_found (expands_at _ _ _ _ _ _) _ _ _ _ v.1 c.loop-i-test.true x.0 c.place-k.ensures c.if-expands.true, x.1)
 
 pub loop-i-preserved : goal.loop-i-preserved
 unfolding expands_at
-loop-i-preserved c = λ u h.
-    let v = c.loop-i.invariant u h in
-    elim c.else-first_in_clause.branch [
-      | else-first_in_clause-via-then-first_in_clause+else-expands w ↦
-          let x = w.expands.ensures v.0 (omega (arith, h, c.loop-i.auto.held)) in (
-            subst Unmarked (sym w.seen-is) x.1,
-            any_next (expands_at _ _ _ _ _ _) _ _ _ _ v.1 c.loop-i-test.true x.0 c.place-k.ensures w.if-expands.false,
-          )
-      | else-first_in_clause-via-else-first_in_clause w ↦ (
-        subst Unmarked (sym w.seen-is) v.0,
-        any_next (expands_at _ _ _ _ _ _) _ _ _ _ v.1 c.loop-i-test.true
-            (expands_no _ _ _ _ _ (first_unfit _ _ _ _ (sym c.first_in_clause.ensures ∙ w.if-first_in_clause.false))) c.place-k.ensures refl,
-      )
-    ]
+loop-i-preserved c = elim c.else-first_in_clause.branch [
+  | else-first_in_clause-via-then-first_in_clause+else-expands w ↦ record {
+    lent = search rules;
+    answer = λ e.
+        let v = c.loop-i.invariant.answer e in
+        let x = w.expands.ensures.answer v.0 in (
+          search rules,
+          any_next (expands_at _ _ _ _ _ _) _ _ _ _ v.1 c.loop-i-test.true x.0 c.place-k.ensures w.if-expands.false,
+        );
+  }
+  | else-first_in_clause-via-else-first_in_clause w ↦ record {
+    lent = search rules;
+    answer = λ e.
+        let v = c.loop-i.invariant.answer e in (
+          search rules,
+          any_next (expands_at _ _ _ _ _ _) _ _ _ _ v.1 c.loop-i-test.true
+              (expands_no _ _ _ _ _ (first_unfit _ _ _ _ (sym c.first_in_clause.ensures ∙ w.if-first_in_clause.false))) c.place-k.ensures refl,
+        );
+  }
+]
 
-pub returns : goal.returns
-returns c = λ u h. let v = c.loop-i.invariant u h in (any_done (expands_at _ _ _ _ _ _) _ _ _ _ v.1 c.loop-i-test.false, v.0)
+pub returns-clause-answer : goal.returns-clause-answer
+returns-clause-answer c = λ e.
+    let v = c.loop-i.invariant.answer e in
+    (any_done (expands_at _ _ _ _ _ _) _ _ _ _ v.1 c.loop-i-test.false, v.0)

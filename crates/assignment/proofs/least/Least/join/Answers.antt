@@ -4,7 +4,6 @@ use Rattle.assignment.proofs.least.Least.join.Goals as goal
 
 pub loop-y-preserved : goal.loop-y-preserved
 loop-y-preserved c = let l = c.loop-y.invariant in record {
-  room = c.add.ensures.room;
   lent = (c.add.ensures.lent.0 ∙ l.lent.0, c.add.ensures.lent.1 ∙ l.lent.1);
   held = λ h.
       let v = l.held h in

@@ -1,5 +1,4 @@
 use mathlib.Core.Path.{◌≡◌}
-use Prim.Native.Nat.{◌≤◌}
 use Rattle.cells.specs.Codes.{codes_left}
 use Rattle.copies.specs.Copies.{list_in}
 use Rattle.assignment.specs.Held.{joined}
@@ -8,7 +7,6 @@ use Rattle.assignment.proofs.least.Least.join.Given as goal
 
 abbrev pub invariant-loop-y : goal.invariant-loop-y
 invariant-loop-y l = record {
-  room : l.self.count ≤ 8194;
   lent : SameArrays l.initial.self l.self;
   held : HeldIn l.initial.self
       → HeldIn l.self × (joined (items_of l.self) (codes_left l.y-iterator) ≡ joined (items_of l.initial.self) (list_in l.map l.a));

@@ -9,7 +9,6 @@ use Rattle.assignment.proofs.least.Least.join_annotations.Goals as goal
 
 pub loop-x-init : goal.loop-x-init
 loop-x-init c = record {
-  room = c.requires;
   lent = (refl, refl);
   held = λ h. (
     h,
@@ -21,7 +20,6 @@ loop-x-init c = record {
 
 pub loop-x-preserved-then-a-last : goal.loop-x-preserved-then-a-last
 loop-x-preserved-then-a-last c = let l = c.loop-x.invariant in record {
-  room = c.join.ensures.room;
   lent = (c.join.ensures.lent.0 ∙ l.lent.0, c.join.ensures.lent.1 ∙ l.lent.1);
   held = λ h.
       let v = l.held h in
@@ -32,7 +30,6 @@ loop-x-preserved-then-a-last c = let l = c.loop-x.invariant in record {
 
 pub loop-x-preserved : goal.loop-x-preserved
 loop-x-preserved c = let l = c.loop-x.invariant in record {
-  room = l.room;
   lent = l.lent;
   held = λ h.
       let v = l.held h in

@@ -1,5 +1,4 @@
 use mathlib.Core.Path.{◌≡◌}
-use Prim.Native.Nat.{◌≤◌}
 use Rattle.cells.specs.Codes.{codes_left}
 use Rattle.copies.specs.Copies.{annotation_in, list_in, line_in}
 use Rattle.assignment.specs.Held.{joined}
@@ -9,7 +8,6 @@ use Rattle.assignment.proofs.least.Least.join_annotations.Given as goal
 
 abbrev pub invariant-loop-x : goal.invariant-loop-x
 invariant-loop-x l = record {
-  room : l.self.count ≤ 8194;
   lent : SameArrays l.initial.self l.self;
   held : HeldIn l.initial.self
       → HeldIn l.self × (joined (items_of l.self) (list_in l.view.map.now l.last) ≡ items_of l.self)

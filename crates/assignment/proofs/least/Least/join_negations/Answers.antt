@@ -4,11 +4,10 @@ use Rattle.assignment.proofs.Arms.{negations_stop, negations_turn}
 use Rattle.assignment.proofs.least.Least.join_negations.Goals as goal
 
 pub join_negation-requires : goal.join_negation-requires
-join_negation-requires c = (c.loop-y.invariant.room, (first_code _ _ _ _ c.in-Some.ensures.steps).2)
+join_negation-requires c = (first_code _ _ _ _ c.in-Some.ensures.steps).2
 
 pub loop-y-preserved : goal.loop-y-preserved
 loop-y-preserved c = let l = c.loop-y.invariant in record {
-  room = c.join_negation.ensures.room;
   lent = (c.join_negation.ensures.lent.0 ∙ l.lent.0, c.join_negation.ensures.lent.1 ∙ l.lent.1);
   held = λ h.
       let v = l.held h in

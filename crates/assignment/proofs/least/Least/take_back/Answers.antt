@@ -1,3 +1,4 @@
+use Rattle.std.proofs.Common.{rules, refl}
 use Rattle.assignment.proofs.HeldLaws.{left_more, left_none}
 use Rattle.assignment.proofs.least.Least.take_back.Goals as goal
 
@@ -9,5 +10,8 @@ loop-i-preserved c = let l = c.loop-i.invariant in record {
   left = λ h. left_more _ _ _ (l.left h) c.loop-i-test.true c.code-y.ensures.0 c.set_at.ensures;
 }
 
-pub returns-clause-unmarked : goal.returns-clause-unmarked
-returns-clause-unmarked c = λ h. left_none _ _ _ (c.loop-i.invariant.left h) c.loop-i-test.false
+pub returns-clause-empty : goal.returns-clause-empty
+returns-clause-empty c = λ h.
+    let l = c.loop-i.invariant in
+    let k = h.long_list in
+    (left_none _ _ _ (l.left h) c.loop-i-test.false, search (rules, l.held), refl)
