@@ -94,22 +94,22 @@ judge_all l = judge_lines (judge_bytes formula_line (judge_formula (limits l))) 
 pub record Here (bs : List ℕ) (p₀ m₀ p m : List ℤ) (s : State) (n : ℕ) (ls : List (List ℕ)) (l : Places) : Type 0 where
   pub state : Option Formula
   pub holds : Holding s p m state
-  pub left : read_formula (limits l) bs ≡ judge_all l (n + 1) ls state
+  pub left : read_formula (limits l) bs ≡ judge_all l n ls state
   pub prefix : Kept (formula_needs_so_far state).prefix p₀ p
   pub matrix : Kept (formula_needs_so_far state).matrix m₀ m
 
--- n lines are read, and these are left
+-- line n comes next, and these are left
 pub record Going (bs : List ℕ) (p₀ m₀ p m : List ℤ) (s : State) (n : ℕ) (ls : List (List ℕ)) : Type 0 where
-  pub count : n + bytes_in ls ≤ length bs + 1
+  pub count : n + bytes_in ls ≤ length bs + 2
   pub bound : bound_of s + bytes_in ls ≤ length bs + 1
   pub here : (l : Places) → Sized l p₀ m₀ → Here bs p₀ m₀ p m s n ls l
 
-pub going_start : {bs : List ℕ} {p m : List ℤ} {ls : List (List ℕ)} → ls ≡ lines_of bs → Going bs p m p m None 0 ls
+pub going_start : {bs : List ℕ} {p m : List ℤ} {ls : List (List ℕ)} {n : ℕ} → ls ≡ lines_of bs → n ≡ 1 → Going bs p m p m None n ls
 unfolding read_formula judge_file
-going_start {bs} {p} {m} {ls} e = record {
-  count = omega (arith, ap bytes_in e, bytes_of_lines bs);
+going_start {bs} {p} {m} {ls} {n} e first = record {
+  count = omega (arith, ap bytes_in e, bytes_of_lines bs, first);
   bound = omega (arith, ap bytes_in e, bytes_of_lines bs);
-  here = λ l o. record { state = none; holds = tt; left = ap (λ ls. judge_all l 1 ls none) (sym e); prefix = kept_self 0 p; matrix = kept_self 0 m };
+  here = λ l o. record { state = none; holds = tt; left = ap₂ (λ n ls. judge_all l n ls none) (sym first) (sym e); prefix = kept_self 0 p; matrix = kept_self 0 m };
 }
 
 -- the end of the file
@@ -134,7 +134,7 @@ module _ {bs : List ℕ} {p₀ m₀ p m : List ℤ} {s : State} {n : ℕ} {ls : 
   going_last {v} e q = record {
     answers = λ l o. let k = g.here l o in
         subst (λ v. Answers (read_formula (limits l) bs) p₀ m₀ v p m) (sym q)
-        (subst (λ r. Answers r p₀ m₀ (close_of s) p m) (sym (k.left ∙ ap (λ ls. judge_all l (n + 1) ls k.state) e))
+        (subst (λ r. Answers r p₀ m₀ (close_of s) p m) (sym (k.left ∙ ap (λ ls. judge_all l n ls k.state) e))
         (closes l p₀ m₀ p m s k.state k.holds k.prefix k.matrix));
   }
 
@@ -162,29 +162,29 @@ module _ {bs : List ℕ} {p₀ m₀ p m : List ℤ} {s : State} {n : ℕ} {ls : 
       matrix_kept : Kept (formula_needs_so_far (state_in step)).matrix m₀ w
       matrix_kept = kept_chain (kept_later (g.here l o).matrix (needs_grow line l (g.here l o).state).1) judged.matrix
 
-      one_line : {y : Step (Option Formula)} → step ≡ y → read_formula (limits l) bs ≡ go_on y (judge_all l (n + 1 + 1) rest) (n + 1)
+      one_line : {y : Step (Option Formula)} → step ≡ y → read_formula (limits l) bs ≡ go_on y (judge_all l (n + 1) rest) n
       unfolding judge_lines line_judge
-      one_line r = (g.here l o).left ∙ ap (λ ls. judge_all l (n + 1) ls (g.here l o).state) h ∙ ap (λ y. go_on y (judge_all l (n + 1 + 1) rest) (n + 1)) r
+      one_line r = (g.here l o).left ∙ ap (λ ls. judge_all l n ls (g.here l o).state) h ∙ ap (λ y. go_on y (judge_all l (n + 1) rest) n) r
 
-    pub going_refused : {rule : Rule} → x ≡ Err rule → Whole bs p₀ m₀ (Err (record { rule = rule; line = n + 1 })) u w
-    going_refused {rule} b = record {
-      answers = λ l o. subst (λ r. Answers r p₀ m₀ (Err (record { rule = rule; line = n + 1 })) u w)
+    pub going_refused : {rule : Rule} → x ≡ Err rule → {r : Refusal} → r ≡ record { rule = rule; line = n } → Whole bs p₀ m₀ (Err r) u w
+    going_refused {rule} b e = subst (λ r. Whole bs p₀ m₀ (Err r) u w) (sym e) record {
+      answers = λ l o. subst (λ r. Answers r p₀ m₀ (Err (record { rule = rule; line = n })) u w)
           (sym (one_line l o (step_refused (step l o) rule u w (subst (λ x. Stepped (step l o) x u w) b (judged l o).stepped))))
           (record { answer = (refl, refl); prefix = prefix_kept l o; matrix = matrix_kept l o });
     }
 
-    module _ {t : State} (b : x ≡ Ok t) where
+    module _ {t : State} (b : x ≡ Ok t) {k : ℕ} (c : k ≡ n + 1) where
       goes_on : (l : Places) (o : Sized l p₀ m₀) → (step l o ≡ next (state_in (step l o))) × Holding t u w (state_in (step l o))
       goes_on l o = step_next (step l o) t u w (subst (λ x. Stepped (step l o) x u w) b (judged l o).stepped)
 
-      pub going_next : Going bs p₀ m₀ u w t (n + 1) rest
+      pub going_next : Going bs p₀ m₀ u w t k rest
       going_next = record {
-        count = omega (arith, g.count, ap bytes_in h);
+        count = omega (arith, g.count, ap bytes_in h, c);
         bound = omega (arith, subst (Grows (bound_of s + length line)) b a.grows, g.bound, ap bytes_in h);
         here = λ l o. record {
           state = state_in (step l o);
           holds = (goes_on l o).1;
-          left = one_line l o (goes_on l o).0;
+          left = one_line l o (goes_on l o).0 ∙ ap (λ n. judge_all l n rest (state_in (step l o))) (sym c);
           prefix = prefix_kept l o;
           matrix = matrix_kept l o;
         };

@@ -7,7 +7,7 @@ use Prim.Native.Nat.{ℕ}
 use native.Mathlib.Omega.{arith}
 use lib.ListN.{length}
 use lib.Dec.{eqb}
-use borrow.Author.Tests.{eqb-true}
+use borrow.Author.Tests.{ne_eqb}
 use Rattle.lines.specs.Bytes.{class_of, bytes, same_bytes, is_minus}
 use Rattle.lines.specs.Lines.{Token, number, minus, word, token_of, signed, is_number, value, read_line}
 use Rattle.lines.specs.declared.Head.{Head}
@@ -19,8 +19,7 @@ use Rattle.rules.specs.Forms.{FormulaLine, clause, formula_line, by_word, proble
 use Rattle.rules.specs.Needs.{Places}
 use Rattle.rules.specs.Step.{next, judge_bytes}
 use Rattle.formula.specs.declared.Quantifier.TheVariants.{Universal, Existential}
-use Rattle.formula.specs.declared.Kind.{Kind}
-use Rattle.formula.specs.Kinds.{number_of, letter_kind, kind_of}
+use Rattle.formula.specs.Quantifiers.{number_of}
 use Rattle.formula.specs.Judged.{line_judge, by_form, problem_judge, binding_judge, clause_judge}
 
 -- a word that is no number
@@ -66,14 +65,8 @@ one_byte (x ∷ y ∷ w) b h = go (eqb x b)
 pub other_byte : (x b : ℕ) → eqb x b ≡ false → same_bytes (x ∷ []) (b ∷ []) ≡ false
 other_byte x b e = ap (λ t. t && true) e
 
--- WHAT THE RULES SAY OF A LINE, BY ITS KIND
+-- WHAT THE RULES SAY OF A LINE, BY ITS FIRST WORD
 module _ (bs : List ℕ) (l : Places) (s : Option Formula) where
-  abbrev pub Means : Kind → Type 0
-  Means Kind.Skip = line_judge bs l s ≡ next s
-  Means (Kind.Problem e) = line_judge bs l s ≡ problem_judge bs e l s
-  Means (Kind.Binding q e) = line_judge bs l s ≡ binding_judge bs e (number_of q) l s
-  Means Kind.Clause = line_judge bs l s ≡ clause_judge bs l s
-
   read_as : {ts : List Token} → read_line bs ≡ some ts → line_judge bs l s ≡ by_form (formula_line ts) l s
   unfolding line_judge judge_bytes
   read_as e = ap (λ r. maybe r (next s) (λ ts. by_form (formula_line ts) l s)) e
@@ -82,30 +75,36 @@ module _ (bs : List ℕ) (l : Places) (s : Option Formula) where
   unfolding clause_judge
   as_clause h e = h ∙ ap (λ ts. by_form (clause_form clause ts) l s) (sym e)
 
-  letter_means : (b e : ℕ) → head_of bs ≡ Head.Letter b e → Means (letter_kind b e)
-  unfolding letter_kind problem_judge binding_judge formula_line class_of
-  letter_means b e h = go (eqb b 112) refl (eqb b 97) refl (eqb b 101) refl
-    where
-      line : line_judge bs l s ≡ by_form (formula_line (token_of (b ∷ []) ∷ tokens_from bs e)) l s
-      line = let k = head_letter bs h in read_as k.0 ∙ ap (λ ts. by_form (formula_line ts) l s) k.1
+  -- a letter
+  module _ {b e : ℕ} (h : head_of bs ≡ Head.Letter b e) where
+    line : line_judge bs l s ≡ by_form (formula_line (token_of (b ∷ []) ∷ tokens_from bs e)) l s
+    line = let k = head_letter bs h in read_as k.0 ∙ ap (λ ts. by_form (formula_line ts) l s) k.1
 
-      go : (x : Bool) → eqb b 112 ≡ x → (y : Bool) → eqb b 97 ≡ y → (z : Bool) → eqb b 101 ≡ z → Means (cond x (Kind.Problem e) (cond y (Kind.Binding Universal e) (cond z (Kind.Binding Existential e) Kind.Clause)))
-      go true i y j z k = line ∙ ap (λ n. by_form (formula_line (token_of (n ∷ []) ∷ tokens_from bs e)) l s) (eqb-true b 112 i)
-      go false i true j z k = line ∙ ap (λ n. by_form (formula_line (token_of (n ∷ []) ∷ tokens_from bs e)) l s) (eqb-true b 97 j)
-      go false i false j true k = line ∙ ap (λ n. by_form (formula_line (token_of (n ∷ []) ∷ tokens_from bs e)) l s) (eqb-true b 101 k)
-      go false i false j false k =
-          as_clause (line ∙ ap (λ x. by_form x l s) (plain_line (b ∷ []) (tokens_from bs e) (other_byte b 112 i) (other_byte b 97 j) (other_byte b 101 k))) (head_letter bs h).1
+    by_letter : {n : ℕ} → b ≡ n → line_judge bs l s ≡ by_form (formula_line (token_of (n ∷ []) ∷ tokens_from bs e)) l s
+    by_letter i = line ∙ ap (λ n. by_form (formula_line (token_of (n ∷ []) ∷ tokens_from bs e)) l s) i
 
-  skipped : head_of bs ≡ Head.Skipped → line_judge bs l s ≡ next s
+    pub problem_head : b ≡ 112 → line_judge bs l s ≡ problem_judge bs e l s
+    unfolding problem_judge formula_line class_of
+    problem_head i = by_letter i
+
+    pub universal_head : b ≡ 97 → line_judge bs l s ≡ binding_judge bs e (number_of Universal) l s
+    unfolding binding_judge formula_line class_of
+    universal_head i = by_letter i
+
+    pub existential_head : b ≡ 101 → line_judge bs l s ≡ binding_judge bs e (number_of Existential) l s
+    unfolding binding_judge formula_line class_of
+    existential_head i = by_letter i
+
+    pub letter_head : (b ≡ 112 → ⊥) → (b ≡ 97 → ⊥) → (b ≡ 101 → ⊥) → line_judge bs l s ≡ clause_judge bs l s
+    letter_head p a x =
+        as_clause (line ∙ ap (λ x. by_form x l s) (plain_line (b ∷ []) (tokens_from bs e) (other_byte b 112 (ne_eqb b 112 p)) (other_byte b 97 (ne_eqb b 97 a)) (other_byte b 101 (ne_eqb b 101 x))))
+        (head_letter bs h).1
+
+  pub skipped_head : head_of bs ≡ Head.Skipped → line_judge bs l s ≡ next s
   unfolding line_judge judge_bytes
-  skipped e = ap (λ r. maybe r (next s) (λ ts. by_form (formula_line ts) l s)) (head_skipped bs e)
+  skipped_head e = ap (λ r. maybe r (next s) (λ ts. by_form (formula_line ts) l s)) (head_skipped bs e)
 
-  pub kind_means : Means (kind_of (head_of bs))
-  kind_means = go (head_of bs) refl
-    where
-      go : (h : Head) → head_of bs ≡ h → Means (kind_of h)
-      go Head.Skipped e = skipped e
-      go (Head.Letter b e) h = letter_means b e h
-      go Head.Other h =
-          let k = head_other bs h in
-          as_clause (read_as k.2 ∙ ap (λ x. by_form x l s) (ap formula_line k.3 ∙ plain_line k.0 k.1 (one_byte k.0 112 k.4) (one_byte k.0 97 k.4) (one_byte k.0 101 k.4))) k.3
+  pub other_head : head_of bs ≡ Head.Other → line_judge bs l s ≡ clause_judge bs l s
+  other_head h =
+      let k = head_other bs h in
+      as_clause (read_as k.2 ∙ ap (λ x. by_form x l s) (ap formula_line k.3 ∙ plain_line k.0 k.1 (one_byte k.0 112 k.4) (one_byte k.0 97 k.4) (one_byte k.0 101 k.4))) k.3

@@ -5,11 +5,14 @@ use mathlib.Core.List.{List, [], ◌∷◌, map}
 use mathlib.Core.Option.{Option, none, some}
 use Prim.Native.Nat.{ℕ}
 use native.Mathlib.Omega.{arith}
+use lib.Dec.{eqb}
 use lib.ListN.{length}
+use borrow.Author.Tests.{eqb-true, eqb-false}
 use lib.IntN.{ℤ}
 use Rattle.std.specs.Prelude.{Some, None, Ok, Err}
 use Rattle.rules.specs.declared.Rule.TheVariants.{Malformed}
 use Rattle.lines.specs.Lists.{is_empty}
+use Rattle.lines.specs.declared.Head.{Head}
 use Rattle.lines.specs.Lines.{Token, number, minus, word}
 use Rattle.lines.specs.Scan.{tokens_from, head_of}
 use Rattle.cells.proofs.Laws.{kept_self}
@@ -22,12 +25,9 @@ use Rattle.rules.specs.Step.{Step, refuse}
 use Rattle.rules.specs.FormulaLines.{judge_formula}
 use Rattle.lists.specs.Lists.{exactly}
 use Rattle.lists.proofs.FormLaws.{clause_form_lem, binding_form_lem}
-use Rattle.formula.specs.declared.Quantifier.{Quantifier}
-use Rattle.formula.specs.declared.Kind.{Kind}
 use Rattle.formula.specs.declared.Reading.{Reading}
-use Rattle.formula.specs.Kinds.{number_of, kind_of}
 use Rattle.formula.specs.Judged.{State, Outcome, quantifier, line_judge, by_form, problem_judge, binding_judge, clause_judge, Judged, LineRead}
-use Rattle.formula.proofs.LineKinds.{Means, kind_means}
+use Rattle.formula.proofs.LineKinds.{problem_head, universal_head, existential_head, letter_head, skipped_head, other_head}
 use Rattle.formula.proofs.Steps.{untouched, start_untouched}
 
 -- what the rules say in another form
@@ -90,45 +90,60 @@ module _ (l : Places) (f : Formula) where
   late_problem bs e = late_form (tokens_from bs e)
 
 module _ (bs : List ℕ) where
-  known : (l : Places) (f : Option Formula) {k : Kind} → kind_of (head_of bs) ≡ k → Means bs l f k
-  known l f e = subst (Means bs l f) e (kind_means bs l f)
-
-  skip_judged : (s : State) (p m : List ℤ) → kind_of (head_of bs) ≡ Kind.Skip → LineRead (line_judge bs) s (length bs) p m (Ok s) p m
-  skip_judged s p m k = record {
-    judged = λ l f o h. subst (λ x. Judged x p m (Ok s) p m) (sym (known l f k)) (record { stepped = h; prefix = kept_self (formula_needs_so_far f).prefix p; matrix = kept_self (formula_needs_so_far f).matrix m });
+  skip_judged : (s : State) (p m : List ℤ) → head_of bs ≡ Head.Skipped → LineRead (line_judge bs) s (length bs) p m (Ok s) p m
+  skip_judged s p m h = record {
+    judged = λ l f o k. subst (λ x. Judged x p m (Ok s) p m) (sym (skipped_head bs l f h)) (record { stepped = k; prefix = kept_self (formula_needs_so_far f).prefix p; matrix = kept_self (formula_needs_so_far f).matrix m });
     grows = omega arith;
   }
 
   -- BEFORE THE `p` LINE
   module _ (p m : List ℤ) where
-    pub first_skip : kind_of (head_of bs) ≡ Kind.Skip → LineRead (line_judge bs) None (length bs) p m (Ok None) p m
-    first_skip k = skip_judged None p m k
+    pub first_skip : head_of bs ≡ Head.Skipped → LineRead (line_judge bs) None (length bs) p m (Ok None) p m
+    first_skip h = skip_judged None p m h
 
-    pub first_problem : {e : ℕ} {t : Outcome} {u : List ℤ} → kind_of (head_of bs) ≡ Kind.Problem e → LineRead (problem_judge bs e) None (length bs) p m t u m
+    pub first_problem : {b e : ℕ} {t : Outcome} {u : List ℤ} → head_of bs ≡ Head.Letter b e → b ≡ 112 → LineRead (problem_judge bs e) None (length bs) p m t u m
         → LineRead (line_judge bs) None (length bs) p m t u m
-    first_problem k h = judged_as (λ l f. known l f k) h
+    first_problem h i k = judged_as (λ l f. problem_head bs l f h i) k
 
-    pub first_binding : {q : Quantifier} {e : ℕ} → kind_of (head_of bs) ≡ Kind.Binding q e → LineRead (line_judge bs) None (length bs) p m (Err Malformed) p m
-    first_binding {q} {e} k = start_untouched (line_judge bs) (length bs) p m none (λ l o. known l none k ∙ early_binding bs e (number_of q) l)
+    early : ((l : Places) → line_judge bs l none ≡ refuse 2 none) → LineRead (line_judge bs) None (length bs) p m (Err Malformed) p m
+    early h = start_untouched (line_judge bs) (length bs) p m none (λ l o. h l)
 
-    pub first_clause : kind_of (head_of bs) ≡ Kind.Clause → LineRead (line_judge bs) None (length bs) p m (Err Malformed) p m
-    first_clause k = start_untouched (line_judge bs) (length bs) p m none (λ l o. known l none k ∙ early_clause bs l)
+    pub first_letter : {b e : ℕ} → head_of bs ≡ Head.Letter b e → (b ≡ 112 → ⊥) → LineRead (line_judge bs) None (length bs) p m (Err Malformed) p m
+    first_letter {b} {e} h i = early (λ l. go l (eqb b 97) refl (eqb b 101) refl)
+      where
+        go : (l : Places) (x : Bool) → eqb b 97 ≡ x → (y : Bool) → eqb b 101 ≡ y → line_judge bs l none ≡ refuse 2 none
+        go l true j y k = universal_head bs l none h (eqb-true b 97 j) ∙ early_binding bs e 1 l
+        go l false j true k = existential_head bs l none h (eqb-true b 101 k) ∙ early_binding bs e 2 l
+        go l false j false k = letter_head bs l none h i (eqb-false b 97 j) (eqb-false b 101 k) ∙ early_clause bs l
+
+    pub first_other : head_of bs ≡ Head.Other → LineRead (line_judge bs) None (length bs) p m (Err Malformed) p m
+    first_other h = early (λ l. other_head bs l none h ∙ early_clause bs l)
 
     -- AFTER THE `p` LINE
     module _ (r : Reading) where
-      pub within_skip : kind_of (head_of bs) ≡ Kind.Skip → LineRead (line_judge bs) (Some r) (length bs) p m (Ok (Some r)) p m
-      within_skip k = skip_judged (Some r) p m k
+      pub within_skip : head_of bs ≡ Head.Skipped → LineRead (line_judge bs) (Some r) (length bs) p m (Ok (Some r)) p m
+      within_skip h = skip_judged (Some r) p m h
 
-      pub within_problem : {e : ℕ} → kind_of (head_of bs) ≡ Kind.Problem e → LineRead (line_judge bs) (Some r) (length bs) p m (Err Malformed) p m
-      within_problem {e} k = untouched (line_judge bs) (length bs) p m r some (λ l f o h. known l (some f) k ∙ late_problem l f bs e)
-
-      pub within_binding : {q : Quantifier} {e : ℕ} {t : Outcome} {u : List ℤ} → kind_of (head_of bs) ≡ Kind.Binding q e → LineRead (binding_judge bs e (number_of q)) (Some r) (length bs) p m t u m
-          → LineRead (line_judge bs) (Some r) (length bs) p m t u m
-      within_binding k h = judged_as (λ l f. known l f k) h
-
-      pub within_clause : {t : Outcome} {w : List ℤ} → kind_of (head_of bs) ≡ Kind.Clause → LineRead (clause_judge bs) (Some r) (length bs) p m t p w
+      pub within_other : {t : Outcome} {w : List ℤ} → head_of bs ≡ Head.Other → LineRead (clause_judge bs) (Some r) (length bs) p m t p w
           → LineRead (line_judge bs) (Some r) (length bs) p m t p w
-      within_clause k h = judged_as (λ l f. known l f k) h
+      within_other h k = judged_as (λ l f. other_head bs l f h) k
+
+      module _ {b e : ℕ} (h : head_of bs ≡ Head.Letter b e) where
+        pub within_problem : b ≡ 112 → LineRead (line_judge bs) (Some r) (length bs) p m (Err Malformed) p m
+        within_problem i = untouched (line_judge bs) (length bs) p m r some (λ l f o k. problem_head bs l (some f) h i ∙ late_problem l f bs e)
+
+        module _ {t : Outcome} where
+          pub within_universal : {u : List ℤ} → b ≡ 97 → LineRead (binding_judge bs e 1) (Some r) (length bs) p m t u m
+              → LineRead (line_judge bs) (Some r) (length bs) p m t u m
+          within_universal i k = judged_as (λ l f. universal_head bs l f h i) k
+
+          pub within_existential : {u : List ℤ} → b ≡ 101 → LineRead (binding_judge bs e 2) (Some r) (length bs) p m t u m
+              → LineRead (line_judge bs) (Some r) (length bs) p m t u m
+          within_existential i k = judged_as (λ l f. existential_head bs l f h i) k
+
+          pub within_letter : {w : List ℤ} → (b ≡ 112 → ⊥) → (b ≡ 97 → ⊥) → (b ≡ 101 → ⊥) → LineRead (clause_judge bs) (Some r) (length bs) p m t p w
+              → LineRead (line_judge bs) (Some r) (length bs) p m t p w
+          within_letter x y z k = judged_as (λ l f. letter_head bs l f h x y z) k
 
 -- the state by another name
 pub read_in : {judge : Places → Option Formula → Step (Option Formula)} {s t : State} {n : ℕ} {p m u w : List ℤ} {x : Outcome} → s ≡ t → LineRead judge t n p m x u w → LineRead judge s n p m x u w

@@ -17,7 +17,7 @@ use Rattle.rules.specs.Basics.{is_in, distinct}
 use Rattle.rules.specs.Literals.{Lit, Lits, vars, var}
 use Rattle.rules.specs.Codes.{code_of}
 use Rattle.rules.specs.Formula.{Bound, for_all, exists, bound_var}
-use Rattle.rules.proofs.Kit.{and_l, and_r}
+use Rattle.rules.proofs.Kit.{and_l, and_r, eqb_sym}
 use Rattle.rules.proofs.CodesLaw.{var_code}
 use Rattle.lists.specs.Stores.{written, in_range}
 use Rattle.prefix.specs.Prefix.{entry, kind_of, mark_from, Shows}
@@ -31,13 +31,6 @@ fresh xs [] = true
 fresh xs (v ∷ vs) = not (is_in xs v) && fresh (xs ++ (v ∷ [])) vs
 
 -- FRESH IS DISTINCT
-eqb_sym : (a b : ℕ) → eqb a b ≡ eqb b a
-eqb_sym a b = go (eqb a b) refl
-  where
-    go : (t : Bool) → eqb a b ≡ t → eqb a b ≡ eqb b a
-    go true e = e ∙ sym (eq-eqb b a (sym (eqb-true a b e)))
-    go false e = e ∙ sym (ne_eqb b a (λ k. eqb-false a b e (sym k)))
-
 is_in_snoc : (l : List ℕ) (v a : ℕ) → is_in (l ++ (v ∷ [])) a ≡ is_in l a || eqb a v
 is_in_snoc [] v a = go (eqb a v)
   where

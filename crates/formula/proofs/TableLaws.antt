@@ -18,7 +18,7 @@ use Rattle.lists.proofs.StoreLaws.{codes_lost, codes_end, codes_more}
 use Rattle.prefix.specs.Prefix.{entry, is_bound}
 use Rattle.formula.specs.declared.Quantifier.{Quantifier}
 use Rattle.formula.specs.declared.Quantifier.TheVariants.{Universal, Existential}
-use Rattle.formula.specs.Kinds.{number_of}
+use Rattle.formula.specs.Quantifiers.{number_of}
 use Rattle.formula.specs.Tables.{Pass, pass, Tells, Marks}
 
 -- THE SECOND PASS OVER A PREFIX LINE: what is left to store, in the table as it is

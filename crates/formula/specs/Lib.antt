@@ -1,5 +1,5 @@
 -- What the reader of a formula promises.
-pub mod Kinds
+pub mod Quantifiers
 pub mod Tables
 pub mod Holds
 pub mod Judged

@@ -2,8 +2,7 @@
 #![tactic(auto)]
 
 ghost use Rattle.std.specs.Prelude.{◌≡◌, ◌+◌, ◌≤◌, length, Some, None};
-ghost use Rattle.lines.specs.Scan.{head_of};
-ghost use Rattle.formula.specs.Kinds.{number_of, kind_of};
+ghost use Rattle.formula.specs.Quantifiers.{number_of};
 ghost use Rattle.formula.specs.Tables.{Marks};
 ghost use Rattle.formula.specs.Judged.{problem_judge, binding_judge, clause_judge, line_judge, going_on, Able, ReadInPrefix, ReadInBoth};
 ghost use Rattle.formula.specs.Answers.{close_of, Whole, Answered};
@@ -33,11 +32,12 @@ enum Quantifier {
     Existential,
 }
 
-impl Quantifier {
-    fn number(self) -> u32
-        ensures { result ≡ number_of self }
-    {
-        self as u32
+// A quantifier's number.
+impl From<Quantifier> for u32 {
+    ghost from_gives = { λ quantifier n. n ≡ number_of quantifier };
+
+    fn from(quantifier: Quantifier) -> u32 {
+        quantifier as u32
     }
 }
 
@@ -53,13 +53,13 @@ fn put_binding(
     requires { bound + length line.now ≤ 1048576 }
     ensures { Marks (number_of quantifier) bound line.now at prefix.old result prefix.new }
 {
-    let q = quantifier.number();
+    let q = u32::from(quantifier);
     let mut k = bound;
     for (x, _) in Literals::new(line, at) {
         if x == 0 {
             return Ok(k);
         }
-        if prefix::word_of(prefix, x / 2) != 0 {
+        if prefix::word(prefix, (x / 2) as usize) != 0 {
             return Err(Rule::BoundTwice);
         }
         cells::put(prefix, (x / 2 - 1) as usize, 2 * k + q);
@@ -79,9 +79,7 @@ fn binding_line(
     requires { r.bound + length line.now ≤ 1048576 }
     ensures { ReadInPrefix (binding_judge line.now at (number_of quantifier)) (Some r) line.now prefix.old (going_on result) prefix.new }
 {
-    let Some(list) = lists::clause_at(line, at) else {
-        return Err(Rule::Malformed);
-    };
+    let list = lists::clause_at(line, at).ok_or(Rule::Malformed)?;
     if list.negative || list.count == 0 || r.clauses != 0 {
         return Err(Rule::Malformed);
     }
@@ -98,9 +96,7 @@ fn clause_line(line: &[u8], r: Reading, prefix: &[i32], matrix: &mut [i32]) -> R
     ensures { ReadInBoth (clause_judge line.now) (Some r) line.now
         prefix.now matrix.old (going_on result) prefix.now matrix.new }
 {
-    let Some(list) = lists::clause_at(line, 0) else {
-        return Err(Rule::Malformed);
-    };
+    let list = lists::clause_at(line, 0).ok_or(Rule::Malformed)?;
     if r.v < list.largest {
         return Err(Rule::OutOfRange);
     }
@@ -125,15 +121,9 @@ fn clause_line(line: &[u8], r: Reading, prefix: &[i32], matrix: &mut [i32]) -> R
 fn problem_line(line: &[u8], at: usize, prefix: &mut [i32]) -> Result<Reading, Rule>
     ensures { ReadInPrefix (problem_judge line.now at) None line.now prefix.old (going_on result) prefix.new }
 {
-    let Some(e) = lines::word_is(line, at, b"cnf") else {
-        return Err(Rule::Malformed);
-    };
-    let Some((v, i)) = lists::natural_at(line, e) else {
-        return Err(Rule::Malformed);
-    };
-    let Some((c, j)) = lists::natural_at(line, i) else {
-        return Err(Rule::Malformed);
-    };
+    let e = lines::word_is(line, at, b"cnf").ok_or(Rule::Malformed)?;
+    let (v, i) = lists::natural_at(line, e).ok_or(Rule::Malformed)?;
+    let (c, j) = lists::natural_at(line, i).ok_or(Rule::Malformed)?;
     if !lines::ended(line, j) {
         return Err(Rule::Malformed);
     }
@@ -154,36 +144,14 @@ fn problem_line(line: &[u8], at: usize, prefix: &mut [i32]) -> Result<Reading, R
     })
 }
 
-// What a line is, by its first word.
-#[derive(Clone, Copy)]
-enum Kind {
-    Skip,
-    Problem(usize),
-    Binding(Quantifier, usize),
-    Clause,
-}
-
-#[tactic(auto, unfolding(crate::specs::Kinds::letter_kind))]
-fn kind_of(line: &[u8]) -> Kind
-    ensures { result ≡ kind_of (head_of line.now) }
-{
-    match lines::line_head(line) {
-        Head::Skipped => Kind::Skip,
-        Head::Letter(b'p', e) => Kind::Problem(e),
-        Head::Letter(b'a', e) => Kind::Binding(Quantifier::Universal, e),
-        Head::Letter(b'e', e) => Kind::Binding(Quantifier::Existential, e),
-        Head::Letter(_, _) | Head::Other => Kind::Clause,
-    }
-}
-
 // A line before the `p` line, or that line.
 fn line_first(line: &[u8], prefix: &mut [i32]) -> Result<Option<Reading>, Rule>
     ensures { ReadInPrefix (line_judge line.now) None line.now prefix.old result prefix.new }
 {
-    match kind_of(line) {
-        Kind::Skip => Ok(None),
-        Kind::Problem(e) => Ok(Some(problem_line(line, e, prefix)?)),
-        Kind::Binding(_, _) | Kind::Clause => Err(Rule::Malformed),
+    match lines::line_head(line) {
+        Head::Skipped => Ok(None),
+        Head::Letter(b'p', e) => Ok(Some(problem_line(line, e, prefix)?)),
+        _ => Err(Rule::Malformed),
     }
 }
 
@@ -198,11 +166,12 @@ fn line_within(
     ensures { ReadInBoth (line_judge line.now) (Some r) line.now
         prefix.old matrix.old (going_on result) prefix.new matrix.new }
 {
-    match kind_of(line) {
-        Kind::Skip => Ok(r),
-        Kind::Problem(_) => Err(Rule::Malformed),
-        Kind::Binding(quantifier, e) => binding_line(line, e, quantifier, r, prefix),
-        Kind::Clause => clause_line(line, r, prefix, matrix),
+    match lines::line_head(line) {
+        Head::Skipped => Ok(r),
+        Head::Letter(b'p', _) => Err(Rule::Malformed),
+        Head::Letter(b'a', e) => binding_line(line, e, Quantifier::Universal, r, prefix),
+        Head::Letter(b'e', e) => binding_line(line, e, Quantifier::Existential, r, prefix),
+        _ => clause_line(line, r, prefix, matrix),
     }
 }
 
@@ -227,9 +196,7 @@ fn read_line(
 fn close(so_far: Option<Reading>) -> Result<Reading, Refusal>
     ensures { result ≡ close_of so_far }
 {
-    let Some(r) = so_far else {
-        return Err(Rule::Malformed.into());
-    };
+    let r = so_far.ok_or(Rule::Malformed)?;
     if r.clauses != r.c {
         return Err(Rule::WrongClauseCount.into());
     }
@@ -243,13 +210,8 @@ fn read_lines(formula: &[u8], prefix: &mut [i32], matrix: &mut [i32]) -> Result<
         prefix.old matrix.old result prefix.new matrix.new }
 {
     let mut so_far = None;
-    let mut number: u32 = 0;
-    for line in Lines::new(formula) {
-        number += 1;
-        so_far = match read_line(line, so_far, prefix, matrix) {
-            Ok(next) => next,
-            Err(rule) => return Err(Refusal { rule, line: number }),
-        };
+    for (bytes, line) in Lines::new(formula).zip(1..) {
+        so_far = read_line(bytes, so_far, prefix, matrix).map_err(|rule| Refusal { rule, line })?;
     }
     close(so_far)
 }

@@ -9,15 +9,8 @@ use borrow.Author.Tests.{eq-eqb, ne_eqb, eqb-true, eqb-false, lt-ltb, le-ltb}
 use Rattle.lines.specs.Lists.{any}
 use Rattle.rules.specs.Basics.{is_in, distinct}
 use Rattle.rules.specs.Formula.{Formula, Bound, for_all, exists, bound_var, bound, is_for_all, is_exists, universal, existential, earlier, depends_on}
-use Rattle.rules.proofs.Kit.{clear, by_no, and_l, and_r, not_t, or_fl, or_fr}
+use Rattle.rules.proofs.Kit.{clear, by_no, and_l, and_r, not_t, or_fl, or_fr, eqb_sym}
 use Rattle.prefix.specs.Prefix.{kind_of, mark_from}
-
-eqb_sym : (a b : ℕ) → eqb a b ≡ eqb b a
-eqb_sym a b = go (eqb a b) refl
-  where
-    go : (t : Bool) → eqb a b ≡ t → eqb a b ≡ eqb b a
-    go true e = e ∙ sym (eq-eqb b a (sym (eqb-true a b e)))
-    go false e = e ∙ sym (ne_eqb b a (λ k. eqb-false a b e (sym k)))
 
 kind_low : (b : Bound) → (0 < kind_of b) × (kind_of b ≤ 2)
 kind_low (for_all v) = (omega arith, omega arith)

@@ -54,13 +54,6 @@ pub fn narrower(prefix: &[i32], first: Option<usize>, f: usize) -> usize
     }
 }
 
-// The word of a variable in the prefix table: 0 if it is not bound.
-pub fn word_of(prefix: &[i32], v: u32) -> u32
-    ensures { result ≡ entry prefix.now v }
-{
-    word(prefix, v as usize)
-}
-
 // Zeros in front, as far as the table goes.
 pub fn clear(t: &mut [i32], n: usize)
     ensures { t.new ≡ puts t.old 0 (replicate n 0) }
@@ -74,5 +67,5 @@ pub fn clear(t: &mut [i32], n: usize)
 pub fn all_bound(prefix: &[i32], matrix: &[i32], from: usize) -> bool
     ensures { result ≡ all (is_bound prefix.now) (list_at matrix.now from) }
 {
-    Codes::new(matrix, from).all(|x| word_of(prefix, x / 2) != 0)
+    Codes::new(matrix, from).all(|x| word(prefix, (x / 2) as usize) != 0)
 }

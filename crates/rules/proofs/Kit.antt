@@ -10,6 +10,9 @@ use lib.Dec.{T, eqb, eqb→eq, eqb_refl}
 use Rattle.lines.specs.Lists.{any, all, keep}
 use Rattle.rules.specs.Literals.{Lit, pos, neg, var, negate, same, holds}
 
+-- two tests that follow from each other
+pub use Rattle.std.specs.Cmp.{both_ways as same_test}
+
 pub clear : {b : Bool} → b ≡ true → b ≡ false → ⊥
 clear p q = false≢true (sym q ∙ p)
 
@@ -82,6 +85,12 @@ eqb_eq m n h = eqb→eq m n (to_t (eqb m n) h)
 
 pub eqb_self : (n : ℕ) → eqb n n ≡ true
 eqb_self n = of_t (eqb n n) (eqb_refl n)
+
+pub eqb_sym : (m n : ℕ) → eqb m n ≡ eqb n m
+eqb_sym m n = same_test (eqb m n) (eqb n m) (turned m n) (turned n m)
+  where
+    turned : (m n : ℕ) → eqb m n ≡ true → eqb n m ≡ true
+    turned m n h = ap (eqb n) (eqb_eq m n h) ∙ eqb_self n
 
 pub same_eq : (l m : Lit) → same l m ≡ true → l ≡ m
 same_eq (pos v) (pos w) h = ap pos (eqb_eq v w h)
@@ -165,12 +174,6 @@ holds_in ls l h = found (any_in (same l) ls h)
 
 pub in_holds : (ls : List Lit) (l : Lit) → In l ls → holds ls l ≡ true
 in_holds ls l m = in_any (same l) m (same_self l)
-
--- two tests that follow from each other
-pub same_test : (a b : Bool) → (a ≡ true → b ≡ true) → (b ≡ true → a ≡ true) → a ≡ b
-same_test true b to back = sym (to refl)
-same_test false true to back = back refl
-same_test false false to back = refl
 
 -- a literal and its negation
 pub var_negate : (l : Lit) → var (negate l) ≡ var l

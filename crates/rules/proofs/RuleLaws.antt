@@ -1,6 +1,8 @@
 -- The numbers of the rules are 1 to 17 and distinct, and an answer's number says whether it is one.
-use Rattle.std.proofs.Common.{◌≡◌, refl, ap, sym, ◌∙◌, ℕ, ◌≤◌, lit≤, cond, eqb, arith}
-use Rattle.std.specs.Prelude.{Result, Ok, Err}
+use Rattle.std.proofs.Common.{◌≡◌, refl, ap, sym, ◌∙◌, subst, ℕ, ◌≤◌, lit≤, cond, eqb, arith}
+use Rattle.std.specs.Prelude.{Option, Some, None, Result, Ok, Err}
+use Rattle.std.specs.Option.{ok_or}
+use Rattle.std.specs.Result.{MatchResult, IsErrAnd}
 use Rattle.rules.specs.declared.Rule.{Rule}
 use Rattle.rules.specs.declared.Rule.TheVariants.{Overlong, Malformed, OutOfRange, BoundTwice, Unbound, WrongClauseCount, MappedTwice, BadAnnotation, Unmapped, HintCount, NoExpansion, NotImplied, NothingToDelete, NotClosed, TableFull, BadParent, IndexUsed}
 use Rattle.rules.specs.declared.Refusal.{Refusal}
@@ -89,3 +91,25 @@ module _ {A : Type 0} where
   pub broken_in_positive : (x : Result A Refusal) → 1 ≤ broken_in x → (r : Refusal) × (x ≡ Err r)
   broken_in_positive (Ok a) above = absurd (omega (arith, above))
   broken_in_positive (Err r) above = (r, refl)
+
+  -- `ok_or` by a rule: what was there, or that there was nothing
+  pub asked_some : (o : Option A) (r : Rule) {p : Option A} {x : Result A Rule} {a : A} → o ≡ p → x ≡ ok_or o r → x ≡ Ok a → p ≡ Some a
+  asked_some o r {p} {x} {a} same asked given = sym same ∙ go o (sym asked ∙ given)
+    where
+      go : (o : Option A) → ok_or o r ≡ Ok a → o ≡ Some a
+      go None e = cc
+      go (Some b) e = let z : b ≡ a = cc in ap Some z
+
+  pub asked_none : (o : Option A) (r : Rule) {p : Option A} {x : Result A Rule} {s : Rule} → o ≡ p → x ≡ ok_or o r → x ≡ Err s
+      → (s ≡ r) × (p ≡ None)
+  asked_none o r {p} {x} {s} same asked given = let h = go o (sym asked ∙ given) in (h.0, sym same ∙ h.1)
+    where
+      go : (o : Option A) → ok_or o r ≡ Err s → (s ≡ r) × (o ≡ None)
+      go None e = (let z : r ≡ s = cc in sym z, refl)
+      go (Some b) e = cc
+
+  -- `map_err`: the rule that was broken, and what the closure makes of it
+  pub mapped_err : (x : Result A Rule) {y : Result A Refusal} (Q : Rule → Refusal → Type 0) {d : Refusal}
+      → MatchResult x (λ a. y ≡ Ok a) (λ r. IsErrAnd y (Q r)) → y ≡ Err d → (r : Rule) × (x ≡ Err r) × Q r d
+  mapped_err (Ok a) Q {d} same is_err = let z : Ok a ≡ Err d = sym same ∙ is_err in cc
+  mapped_err (Err r) Q told is_err = (r, refl, subst (λ y. IsErrAnd y (Q r)) is_err told)
