@@ -1,13 +1,13 @@
--- Laws of the tests over marks: each turn of the code, and what the tests say of the line and the clause. Assumes nothing.
+-- Laws of the tests over marks: each turn of the walks, and what the tests say of the line and the clause. Assumes nothing.
 use mathlib.Core.Path.{◌≡◌, refl, ap, sym, ◌∙◌, fun_ext}
 use mathlib.Core.Bool.{Bool, true, false, cond, not, ◌&&◌, ◌||◌, or-true, false≢true}
 use mathlib.Core.List.{List, [], ◌∷◌}
-use Prim.Native.Nat.{ℕ, ◌/◌, ◌<◌, ◌≤◌}
+use Prim.Native.Nat.{ℕ, ◌/◌, ◌<◌}
 use native.Mathlib.Omega.{arith}
 use lib.Dec.{eqb, ltb}
 use lib.ListN.{length, get_or, set, length-set, get_or-eq_default}
 use lib.Seq.{get_or-set_same, get_or-set_other, set_out}
-use borrow.Author.Tests.{eqb-true, eqb-false, eq-eqb, ne_eqb, lt-ltb, le-ltb, ltb-true, ltb-false, not-true}
+use borrow.Author.Tests.{eqb-true, eqb-false, eq-eqb, ltb-true, ltb-false, not-true}
 use Rattle.lines.specs.Lists.{all}
 use Rattle.rules.specs.Basics.{is_in}
 use Rattle.prefix.specs.Prefix.{is_existential}
@@ -15,43 +15,11 @@ use Rattle.copies.specs.Marks.{marks, Marking, Unmarked}
 use Rattle.copies.specs.Copies.{image_of, images_of}
 use Rattle.copies.proofs.MarkLaws.{marks_length, set_at, twice, zero_there, unmarked_marking}
 use Rattle.copies.proofs.Walks.{all_next, all_fail}
-use Rattle.copies.proofs.Choices.{yes, no}
 use Rattle.literals.specs.Literals.{in_clause, in_line, literals_fit}
 use Rattle.literals.specs.Marks.{is_marked, meets, stamped_by, stamped, answered, cleared}
 use Rattle.literals.proofs.Arms.{fit_no, fit_yes}
 
--- A MARK IS PASSED
-module _ (cs s : List ℕ) (y : ℕ) where
-  pub marked_yes : y < length s → (get_or s y 0 ≡ 0 → ⊥) → true ≡ is_marked cs s y
-  unfolding is_marked
-  marked_yes l n = yes (ltb y (length s)) (not (eqb (get_or s y 0) 0)) (is_in cs y) (lt-ltb y (length s) l) (sym (ap not (ne_eqb (get_or s y 0) 0 n)))
-
-  pub marked_no : y < length s → get_or s y 0 ≡ 0 → false ≡ is_marked cs s y
-  unfolding is_marked
-  marked_no l z = yes (ltb y (length s)) (not (eqb (get_or s y 0) 0)) (is_in cs y) (lt-ltb y (length s) l) (sym (ap not (eq-eqb (get_or s y 0) 0 z)))
-
-  pub marked_out : {r : Bool} → length s ≤ y → r ≡ is_in cs y → (r ≡ is_marked cs s y) × (s ≡ stamped r y s)
-  unfolding is_marked stamped
-  marked_out {r} l q = (no (ltb y (length s)) (not (eqb (get_or s y 0) 0)) (is_in cs y) (le-ltb y (length s) l) q, go r)
-    where
-      go : (r : Bool) → s ≡ cond r (set s y 2) s
-      go true = sym (set_out s y 2 l)
-      go false = refl
-
-module _ (w st : ℕ → ℕ) (cs s : List ℕ) (x : ℕ) {v : ℕ} (e : v ≡ st (x / 2)) where
-  pub meets_yes : {y : ℕ} {r : Bool} {u : List ℕ} → is_existential w v ≡ true → y ≡ image_of st x → r ≡ is_marked cs s y → u ≡ stamped r y s
-      → (r ≡ meets w st cs s x) × (u ≡ stamped r (image_of st x) s)
-  unfolding meets
-  meets_yes {y} {r} p k q h = (
-    yes (is_existential w (st (x / 2))) (is_marked cs s (image_of st x)) false (ap (is_existential w) (sym e) ∙ p) (q ∙ ap (is_marked cs s) k),
-    h ∙ ap (λ z. stamped r z s) k,
-  )
-
-  pub meets_no : is_existential w v ≡ false → (false ≡ meets w st cs s x) × (s ≡ stamped false (image_of st x) s)
-  unfolding meets stamped
-  meets_no p = (no (is_existential w (st (x / 2))) (is_marked cs s (image_of st x)) false (ap (is_existential w) (sym e) ∙ p) refl, refl)
-
--- where a mark is stamped, marks stay marks
+-- A MARK IS PASSED: where a mark is stamped, marks stay marks
 module _ (cs s : List ℕ) (y : ℕ) (m : is_marked cs s y ≡ true) (z : ℕ) where
   zero_kept : eqb (get_or (set s y 2) z 0) 0 ≡ eqb (get_or s z 0) 0
   unfolding is_marked
@@ -115,25 +83,6 @@ module _ (w st : ℕ → ℕ) (cs : List ℕ) where
 -- A MARK IS TAKEN BACK
 module _ (w st : ℕ → ℕ) (ls : List ℕ) where
   module _ (s : List ℕ) (y : ℕ) where
-    pub back_one : {r : Bool} → y < length s → get_or s y 0 ≡ 1 → r ≡ is_existential w (y / 2) → not r ≡ answered w st ls s y
-    unfolding answered
-    back_one l m q =
-        yes (ltb y (length s)) (not (eqb (get_or s y 0) 1 && is_existential w (y / 2))) (in_line w st ls y) (lt-ltb y (length s) l)
-        (ap not q ∙ sym (ap (λ b. not (b && is_existential w (y / 2))) (eq-eqb (get_or s y 0) 1 m)))
-
-    pub back_other : y < length s → (get_or s y 0 ≡ 1 → ⊥) → true ≡ answered w st ls s y
-    unfolding answered
-    back_other l m =
-        yes (ltb y (length s)) (not (eqb (get_or s y 0) 1 && is_existential w (y / 2))) (in_line w st ls y) (lt-ltb y (length s) l)
-        (sym (ap (λ b. not (b && is_existential w (y / 2))) (ne_eqb (get_or s y 0) 1 m)))
-
-    pub back_out : {r : Bool} → length s ≤ y → r ≡ in_line w st ls y → (r ≡ answered w st ls s y) × (s ≡ set s y 0)
-    unfolding answered
-    back_out l q = (
-      no (ltb y (length s)) (not (eqb (get_or s y 0) 1 && is_existential w (y / 2))) (in_line w st ls y) (le-ltb y (length s) l) q,
-      sym (set_out s y 0 l),
-    )
-
     -- what was answered stays so
     answered_kept : answered w st ls s y ≡ true → (zs : List ℕ) → all (answered w st ls (set s y 0)) zs ≡ all (answered w st ls s) zs
     unfolding answered

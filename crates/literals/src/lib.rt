@@ -12,6 +12,7 @@ use cells::Codes;
 use copies::{View, marks};
 
 // Without marks: most clauses that do not fit are told by the line's first literal.
+#[tactic(auto, unfolding(crate::specs::Literals::first_in, crate::specs::Literals::in_clause))]
 pub fn first_in_clause(view: View, matrix: &[i32], c: usize) -> bool
     ensures { result ≡ first_in (words view.entry) (stands_in view.entry)
         (list_in matrix.now c) (line_in view.entry) }
@@ -20,38 +21,34 @@ pub fn first_in_clause(view: View, matrix: &[i32], c: usize) -> bool
         return true;
     };
     let x = x as usize;
-    if prefix::existential(view.prefix, view.stands(x / 2)) {
-        return marks::has(matrix, c, view.image(x));
-    }
-    false
+    prefix::existential(view.prefix, view.stands(x / 2)) && marks::has(matrix, c, view.image(x))
 }
 
 // Whether code y has a mark, which becomes 2; one without a place is looked for in the clause.
+#[tactic(auto, unfolding(crate::specs::Marks::is_marked, crate::specs::Marks::stamped))]
 fn stamp_code(seen: &mut [u8], matrix: &[i32], c: usize, y: usize) -> bool
     ensures { (result ≡ is_marked (list_in matrix.now c) seen.old y)
         × (seen.new ≡ stamped result y seen.old) }
 {
-    if y < seen.len() {
-        if seen[y] != 0 {
-            seen[y] = 2;
-            return true;
-        }
-        return false;
+    if y >= seen.len() {
+        return marks::has(matrix, c, y);
     }
-    marks::has(matrix, c, y)
+    let marked = seen[y] != 0;
+    if marked {
+        seen[y] = 2;
+    }
+    marked
 }
 
 // The literal x stands for an existential literal of the clause, whose mark becomes 2.
+#[tactic(auto, unfolding(crate::specs::Marks::meets, crate::specs::Marks::stamped, copies::specs::Copies::image_of))]
 fn stamp_literal(seen: &mut [u8], view: View, matrix: &[i32], c: usize, x: usize) -> bool
     ensures { (result ≡ meets (words view.entry) (stands_in view.entry) (list_in matrix.now c)
         seen.old x)
         × (seen.new ≡ stamped result (image_of (stands_in view.entry) x) seen.old) }
 {
     let e = view.stands(x / 2);
-    if prefix::existential(view.prefix, e) {
-        return stamp_code(seen, matrix, c, 2 * e + x % 2);
-    }
-    false
+    prefix::existential(view.prefix, e) && stamp_code(seen, matrix, c, 2 * e + x % 2)
 }
 
 // Each literal of the line does so; the walk stops at one that does not.
@@ -70,30 +67,26 @@ fn stamp_line(seen: &mut [u8], view: View, matrix: &[i32], c: usize) -> bool
 }
 
 // If literal y is existential, one of the line stands for it. Without marks.
+#[tactic(auto, unfolding(crate::specs::Literals::in_line))]
 fn in_line(view: View, y: usize) -> bool
     ensures { result ≡ in_line (words view.entry) (stands_in view.entry) (line_in view.entry) y }
 {
-    if prefix::existential(view.prefix, y / 2) {
-        return view.has_image(y);
-    }
-    true
+    !prefix::existential(view.prefix, y / 2) || view.has_image(y)
 }
 
 // Takes the mark of literal y back. If y is existential, it may not be 1 still; without a place, y is looked for in the line.
+#[tactic(auto, unfolding(crate::specs::Marks::answered))]
 fn clear_code(seen: &mut [u8], view: View, y: usize) -> bool
     ensures { (result ≡ answered (words view.entry) (stands_in view.entry) (line_in view.entry)
         seen.old y)
         × (seen.new ≡ set seen.old y 0) }
 {
-    if y < seen.len() {
-        let m = seen[y];
-        seen[y] = 0;
-        if m == 1 {
-            return !prefix::existential(view.prefix, y / 2);
-        }
-        return true;
+    if y >= seen.len() {
+        return in_line(view, y);
     }
-    in_line(view, y)
+    let m = seen[y];
+    seen[y] = 0;
+    m != 1 || !prefix::existential(view.prefix, y / 2)
 }
 
 // The same for each literal of the clause; all marks are taken back, whatever the answer.

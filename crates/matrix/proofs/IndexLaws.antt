@@ -27,10 +27,6 @@ module _ (starts : List ℕ) (i k : ℕ) where
   unfolding place_at
   place_inside h = sym (ap (λ b. cond b (get_or starts i 0) 0) (lt-ltb i 8193 h))
 
-  pub place_outside : 8193 ≤ i → 0 ≡ place_at starts i
-  unfolding place_at
-  place_outside h = sym (ap (λ b. cond b (get_or starts i 0) 0) (le-ltb i 8193 h))
-
   pub noted_inside : i < 8193 → set starts i k ≡ noted starts i k
   unfolding noted
   noted_inside h = sym (ap (λ b. cond b (set starts i k) starts) (lt-ltb i 8193 h))

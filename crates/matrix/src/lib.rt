@@ -11,13 +11,11 @@ pub const PLACES: usize = 8193;
 pub type Starts = [usize; PLACES];
 
 // The place where clause i starts, counted from 0.
+#[tactic(auto, unfolding(crate::specs::Index::place_at))]
 pub fn place(starts: &Starts, i: usize) -> usize
     ensures { result ≡ place_at starts.now i }
 {
-    if i < PLACES {
-        return starts[i];
-    }
-    0
+    starts.get(i).copied().unwrap_or(0)
 }
 
 // The place where clause n starts, counted from 1.
@@ -31,7 +29,7 @@ pub fn named(starts: &Starts, n: usize) -> usize
 pub fn index_clauses(matrix: &[i32], used: usize, starts: &mut Starts)
     ensures { starts.new ≡ index_of matrix.now used starts.old }
 {
-    cells::set_at(starts, 0, 0);
+    starts[0] = 0;
     let mut i: usize = 0;
     for k in 0..used {
         if cells::cell(matrix, k) == 0 {

@@ -11,8 +11,8 @@ pub loop-k-init : goal.loop-k-init
 unfolding index_of
 loop-k-init c = record {
   within = omega arith;
-  long = ap (length {A = ℕ}) c.set_at.ensures ∙ length-set c.args.starts.now 0 0 ∙ c.told-starts;
-  left = walk_start _ _ _ ∙ ap (index_from c.args.matrix.now c.args.used 0 0) (c.set_at.ensures ∙ noted_set _ _ _ c.told-starts);
+  long = length-set c.args.starts.now 0 0 ∙ c.told-starts;
+  left = walk_start _ _ _ ∙ ap (index_from c.args.matrix.now c.args.used 0 0) (noted_set _ _ _ c.told-starts);
 }
 
 pub loop-k-preserved : goal.loop-k-preserved
@@ -20,7 +20,7 @@ loop-k-preserved c =
     let l = c.loop-k in
     elim c.if-cell-eq0.branch [
       | then-cell-eq0 w ↦
-          let s : c.if-cell-eq0.starts ≡ set l.starts (l.i + 1) (l.k + 1) = w.starts-is ∙ w.set_at-then-cell-eq0.ensures in record {
+          let s : c.if-cell-eq0.starts ≡ set l.starts (l.i + 1) (l.k + 1) = w.starts-is ∙ w.set_at.ensures in record {
             within = omega (arith, w.i-is, l.invariant.within);
             long = ap (length {A = ℕ}) s ∙ length-set l.starts (l.i + 1) (l.k + 1) ∙ l.invariant.long;
             left =
