@@ -23,16 +23,12 @@ pub fn read_certificate<K: Kind>(
     ensures lent { SameLent tables.old tables.new }
 {
     let mut q = p;
-    let mut number: u32 = 0;
-    for line in Lines::new(certificate) {
-        number = number.wrapping_add(1);
-        match K::line(line, q, tables, work) {
-            Ok(next) => {
-                q = next;
-            }
+    for (bytes, line) in Lines::new(certificate).zip(1..) {
+        match K::line(bytes, q, tables, work) {
+            Ok(next) => q = next,
             Err(rule) => {
                 return Ended {
-                    outcome: Err(Refusal { rule, line: number }),
+                    outcome: Err(Refusal { rule, line }),
                     counts: K::counts(q),
                 };
             }

@@ -4,4 +4,3 @@ pub mod GoingLaws
 pub mod LineLaws
 pub mod MappingLaws
 pub mod ReadLaws
-pub mod CheckLaws

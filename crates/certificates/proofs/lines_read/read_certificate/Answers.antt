@@ -1,33 +1,31 @@
-use Rattle.std.proofs.Common.{◌≡◌, ◌+◌, ◌%◌, ap, ◌∙◌, arith, rules}
+use mathlib.Core.Logic.{⊎_elim}
+use Rattle.std.proofs.Common.{◌+◌, ap, ◌∙◌, rules}
+use Rattle.std.specs.Iterator.Adapters.{zip_first}
 use Rattle.lines.specs.Each.{lines_left}
-use Rattle.reading.proofs.ReadLaws.{midway_start, midway_next, midway_refused, midway_last, midway_count}
+use Rattle.reading.proofs.ReadLaws.{midway_start, midway_next, midway_refused, midway_last, midway_short}
 use Rattle.certificates.proofs.lines_read.read_certificate.Goals as goal
 
-pub loop-line-init : goal.loop-line-init
-loop-line-init g c = record {
-  midway = λ z. midway_start g.met.K.Kind.apt (ap lines_left c.into_iter-line-iterator.ensures.into_iter_gives ∙ c.new-line-items.ensures);
-  prefix = Prim.search rules;
-  matrix = Prim.search rules;
-  lent = Prim.search rules;
-}
+pub loop-bytes-init : goal.loop-bytes-init
+loop-bytes-init g c =
+    let i = c.into_iter-bytes-iterator.ensures.into_iter_gives in
+    let z = c.zip-bytes-items.ensures in
+    record {
+      midway = λ x. midway_start g.met.K.Kind.apt (ap (λ i. lines_left (zip_first i)) i ∙ ap lines_left z.first ∙ c.new.ensures) (Prim.search rules);
+      prefix = Prim.search rules;
+      matrix = Prim.search rules;
+      lent = Prim.search rules;
+    }
 
 pub returns-in-Err-clause-read : goal.returns-in-Err-clause-read
 returns-in-Err-clause-read g c = λ z.
-    let a = g.met.K.Kind.apt in
-    let m = c.loop-line.invariant.midway z in
-    let h = c.in-Some.ensures.steps in
-    let counted : (c.loop-line.number + 1) % 4294967296 ≡ c.loop-line.number + 1 = omega (arith, midway_count a m h z) in
-    rw counted (rw c.counts.ensures (midway_refused a m h z _ _ c.line.ensures.read _ c.in-Err.is))
+    let s = c.in-Some.ensures.steps in
+    rw c.counts.ensures (midway_refused g.met.K.Kind.apt (c.loop-bytes.invariant.midway z) s.0 z _ _ c.line.ensures.read _ c.in-Err.is s.1.0)
 
-pub loop-line-preserved : goal.loop-line-preserved
-loop-line-preserved g c =
-    let a = g.met.K.Kind.apt in
-    let h = c.in-Some.ensures.steps in
+pub loop-bytes-preserved : goal.loop-bytes-preserved
+loop-bytes-preserved g c =
+    let s = c.in-Some.ensures.steps in
     record {
-      midway = λ z.
-          let m = c.loop-line.invariant.midway z in
-          let counted : (c.loop-line.number + 1) % 4294967296 ≡ c.loop-line.number + 1 = omega (arith, midway_count a m h z) in
-          rw counted (midway_next a m h z _ _ c.line.ensures.read _ c.in-Ok.is);
+      midway = λ z. midway_next g.met.K.Kind.apt (c.loop-bytes.invariant.midway z) s.0 z _ _ c.line.ensures.read _ c.in-Ok.is (s.1.1 ∙ ap (λ n. n + 1) s.1.0);
       prefix = Prim.search rules;
       matrix = Prim.search rules;
       lent = Prim.search rules;
@@ -35,5 +33,6 @@ loop-line-preserved g c =
 
 pub returns-clause-read : goal.returns-clause-read
 returns-clause-read g c = λ z.
-    midway_last g.met.K.Kind.apt (c.loop-line.invariant.midway z) (c.in-None.ensures.steps).0 c.end.result (λ f s sh. c.end.ensures.ends _ f s sh)
-    (rw c.counts-2.ensures at c.at_end.ensures)
+    let m = c.loop-bytes.invariant.midway z in
+    midway_last g.met.K.Kind.apt m (⊎_elim (λ w. w.1.0) (λ w. absurd (midway_short g.met.K.Kind.apt m z w.1.0)) c.in-None.ensures.steps) c.end.result
+    (λ f s sh. c.end.ensures.ends _ f s sh) (rw c.counts-2.ensures at c.at_end.ensures)
