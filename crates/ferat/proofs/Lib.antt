@@ -1,4 +1,5 @@
 -- Laws of crate ferat.
+pub mod LentLaws
 pub mod ClauseLaws
 pub mod HintsLaws
 pub mod DeletionLaws

@@ -31,6 +31,17 @@ pub record Line (form : List Token → Option CertificateLine) (bs : List ℕ) (
     : Type 0 where
   pub steps : (f : Formula) (s : State) → Shown p t w f s → Light p (length bs) → Stepped f p (length bs) t (judged form bs at t f s) r u v
 
+-- the tables t with some of another's, and the working memory w with another's notes: all that an `o` line, an addition and, with the
+-- tables of `with_map`, a mapping line depend on
+abbrev pub with_proof : Tables → Tables → Tables
+with_proof t u = record t { proof = u.proof }
+
+abbrev pub with_three : Tables → Tables → Tables
+with_three t u = record t { proof = u.proof; marks = u.marks; values = u.values }
+
+abbrev pub with_noted : Work → Work → Work
+with_noted w v = record w { noted = v.noted }
+
 -- the progress after an `o` line of n hints, with a store above them
 abbrev pub hinted_with : Progress → ℕ → Store → Progress
 hinted_with p n s = record p { hinted = Some n; store = s }

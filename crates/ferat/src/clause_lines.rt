@@ -1,8 +1,11 @@
 // `e` lines and additions: measured, stored where the proof table is free, then judged there.
 ghost use Rattle.std.specs.Prelude.{◌≡◌};
 ghost use Rattle.rules.specs.Forms.{clause_form, expansion, addition};
+ghost use Rattle.tables.specs.Tables.{Tables};
 ghost use Rattle.tables.specs.Lent.{tables_of, SameLent};
-ghost use Rattle.ferat.specs.Lines.{Line};
+ghost use Rattle.progress.specs.declared.Work.{Work};
+ghost use Rattle.steps.specs.Judges.{beside};
+ghost use Rattle.ferat.specs.Lines.{Line, with_three};
 
 use progress::{Progress, Work, limit_broken};
 use rules::Rule;
@@ -46,8 +49,8 @@ pub fn addition_line(
     tables: &mut LentTables,
     work: &mut Work,
 ) -> Result<Progress, Rule>
-    ensures read { Line (clause_form addition) line.now 0 p
-        (tables_of tables.old) work.old result (tables_of tables.new) work.new }
+    ensures read { (t : Tables) (w : Work) → Line (clause_form addition) line.now 0 p
+        (with_three t (tables_of tables.old)) (beside w work.old) result (with_three t (tables_of tables.new)) (beside w work.new) }
     ensures rest { tables_of tables.new ≡ record (tables_of tables.old)
         { proof = (tables_of tables.new).proof; marks = (tables_of tables.new).marks } }
     ensures work { work.new ≡ record work.old { trail = work.new.trail; watches = work.new.watches } }

@@ -2,7 +2,10 @@
 ghost use Rattle.std.specs.Prelude.{◌≡◌, true, false};
 ghost use Rattle.lists.specs.Lists.{is_list};
 ghost use Rattle.rules.specs.Forms.{clause_form, deletion};
+ghost use Rattle.tables.specs.Tables.{Tables};
 ghost use Rattle.tables.specs.Lent.{tables_of, SameLent};
+ghost use Rattle.progress.specs.declared.Work.{Work};
+ghost use Rattle.steps.specs.Judges.{among, beside};
 ghost use Rattle.deletion.specs.Deletions.{ListedIn};
 ghost use Rattle.ferat.specs.Lines.{Line, LineListed};
 
@@ -35,8 +38,8 @@ pub fn deletion_line(
     tables: &mut LentTables,
     work: &mut Work,
 ) -> Result<Progress, Rule>
-    ensures read { Line (clause_form deletion) line.now at p
-        (tables_of tables.old) work.old result (tables_of tables.new) work.new }
+    ensures read { (t : Tables) (w : Work) → Line (clause_form deletion) line.now at p
+        (among t (tables_of tables.old)) (beside w work.old) result (among t (tables_of tables.new)) (beside w work.new) }
     ensures marks { tables_of tables.new ≡ record (tables_of tables.old) { marks = (tables_of tables.new).marks } }
     ensures trail { work.new ≡ record work.old { trail = work.new.trail } }
     ensures lent { SameLent tables.old tables.new }

@@ -1,9 +1,10 @@
 // The `o` line.
 ghost use Rattle.std.specs.Prelude.{◌≡◌};
 ghost use Rattle.rules.specs.Forms.{hints_form};
+ghost use Rattle.tables.specs.Tables.{Tables};
 ghost use Rattle.tables.specs.Lent.{tables_of, SameLent};
 ghost use Rattle.progress.specs.declared.Work.{Work};
-ghost use Rattle.ferat.specs.Lines.{Line, hinted_in};
+ghost use Rattle.ferat.specs.Lines.{Line, hinted_in, with_proof};
 
 use progress::Progress;
 use rules::Rule;
@@ -27,7 +28,8 @@ pub fn hints_line(
     p: Progress,
     tables: &mut LentTables,
 ) -> Result<Progress, Rule>
-    ensures read { (w : Work) → Line hints_form line.now at p (tables_of tables.old) w result (tables_of tables.new) w }
+    ensures read { (t : Tables) (w : Work) → Line hints_form line.now at p
+        (with_proof t (tables_of tables.old)) w result (with_proof t (tables_of tables.new)) w }
     ensures rest { tables_of tables.new ≡ record (tables_of tables.old) { proof = (tables_of tables.new).proof } }
     ensures lent { SameLent tables.old tables.new }
 {

@@ -1,8 +1,11 @@
 // The mapping line.
 ghost use Rattle.std.specs.Prelude.{◌≡◌};
 ghost use Rattle.rules.specs.Forms.{mapping_form};
+ghost use Rattle.tables.specs.Tables.{Tables};
 ghost use Rattle.tables.specs.Lent.{tables_of, SameLent};
-ghost use Rattle.ferat.specs.Lines.{Line};
+ghost use Rattle.progress.specs.declared.Work.{Work};
+ghost use Rattle.reading.specs.Lines.{with_map};
+ghost use Rattle.ferat.specs.Lines.{Line, with_noted};
 
 use progress::{Progress, Work};
 use rules::Rule;
@@ -16,8 +19,8 @@ pub fn mapping_line(
     tables: &mut LentTables,
     work: &mut Work,
 ) -> Result<Progress, Rule>
-    ensures read { Line mapping_form line.now at p
-        (tables_of tables.old) work.old result (tables_of tables.new) work.new }
+    ensures read { (t : Tables) (w : Work) → Line mapping_form line.now at p
+        (with_map t (tables_of tables.old)) (with_noted w work.old) result (with_map t (tables_of tables.new)) (with_noted w work.new) }
     ensures rest { tables_of tables.new ≡ record (tables_of tables.old)
         { map = (tables_of tables.new).map; values = (tables_of tables.new).values } }
     ensures noted { work.new ≡ record work.old { noted = work.new.noted } }

@@ -32,9 +32,14 @@ unfoldable pub judged : (List Token → Option FerpLine) → List ℕ → ℕ �
 judged form bs at t f s = maybe (form (tokens_from bs at)) (rules.refuse 2 s) (judge (limits (lengths_of t)) f s)
 
 -- A LINE OF A FORM: the tables t and the working memory w become u and v, and the step is the rules' step
-pub record Line (form : List Token → Option FerpLine) (bs : List ℕ) (at : ℕ) (p : Progress) (t : Tables) (w : Work) (r : Result Progress Rule) (u : Tables) (v : Work) : Type 0 where
+pub record Line (form : List Token → Option FerpLine) (bs : List ℕ) (at : ℕ) (p : Progress) (t : Tables) (w : Work) (r : Result Progress Rule) (u : Tables) (v : Work)
+    : Type 0 where
   pub steps : (f : Formula) (s : Derived) → Shown p t w f s → Light ferp_rules ferp_code p (length bs)
       → Leads ferp_rules ferp_code f p (length bs) t (judged form bs at t f s) r u v
+
+-- the working memory w with another's notes: all that a mapping line depends on
+abbrev pub with_noted : Work → Work → Work
+with_noted w v = record w { noted = v.noted }
 
 -- the progress after a mapping line
 abbrev pub mapped_in : Progress → Mapped → Progress

@@ -17,8 +17,10 @@ pub fn clause_line(
 ) -> Result<Progress, Rule>
     ensures read { Line derivation_form line.now 0 p
         (tables_of tables.old) work.old result (tables_of tables.new) work.new }
-    ensures rest { tables_of tables.new ≡ record (tables_of tables.old) { proof = (tables_of tables.new).proof; marks = (tables_of tables.new).marks } }
-    ensures work { work.new ≡ record work.old { indexes = work.new.indexes; seen = work.new.seen; held = work.new.held; buffer = work.new.buffer } }
+    ensures rest { tables_of tables.new ≡ record (tables_of tables.old)
+        { proof = (tables_of tables.new).proof; marks = (tables_of tables.new).marks } }
+    ensures work { work.new ≡ record work.old
+        { indexes = work.new.indexes; seen = work.new.seen; held = work.new.held; buffer = work.new.buffer } }
     ensures lent { SameLent tables.old tables.new }
 {
     let (d, from) = ferp_forms::derivation_at(line, 0, &mut work.buffer).ok_or(Rule::Malformed)?;

@@ -1,7 +1,10 @@
 // The mapping line.
 ghost use Rattle.std.specs.Prelude.{◌≡◌};
+ghost use Rattle.tables.specs.Tables.{Tables};
 ghost use Rattle.tables.specs.Lent.{tables_of, SameLent};
-ghost use Rattle.ferp.specs.Lines.{same_form, no_clause, Line};
+ghost use Rattle.reading.specs.Lines.{with_map};
+ghost use Rattle.derivations.specs.declared.Work.{Work};
+ghost use Rattle.ferp.specs.Lines.{same_form, no_clause, Line, with_noted};
 
 use derivations::{Progress, Work};
 use rules::Rule;
@@ -23,9 +26,10 @@ pub fn mapping_line(
     tables: &mut LentTables,
     work: &mut Work,
 ) -> Result<Progress, Rule>
-    ensures read { Line same_form line.now at p
-        (tables_of tables.old) work.old result (tables_of tables.new) work.new }
-    ensures rest { tables_of tables.new ≡ record (tables_of tables.old) { map = (tables_of tables.new).map; values = (tables_of tables.new).values } }
+    ensures read { (t : Tables) (w : Work) → Line same_form line.now at p
+        (with_map t (tables_of tables.old)) (with_noted w work.old) result (with_map t (tables_of tables.new)) (with_noted w work.new) }
+    ensures rest { tables_of tables.new ≡ record (tables_of tables.old)
+        { map = (tables_of tables.new).map; values = (tables_of tables.new).values } }
     ensures noted { work.new ≡ record work.old { noted = work.new.noted } }
     ensures lent { SameLent tables.old tables.new }
 {

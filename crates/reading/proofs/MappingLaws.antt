@@ -1,5 +1,5 @@
 -- Laws of a mapping line, whatever the certificate's kind: crate mapping's answer is the rules' step. Assumes nothing.
-use mathlib.Core.Path.{◌≡◌, refl, ap₂, sym, ◌∙◌, subst}
+use mathlib.Core.Path.{◌≡◌, refl, ap, ap₂, sym, ◌∙◌, subst}
 use mathlib.Core.Bool.{Bool, true, false, ◌&&◌}
 use mathlib.Core.List.{List, ◌++◌}
 use mathlib.Core.Option.{Option, none, some}
@@ -29,7 +29,7 @@ use Rattle.tables.proofs.Rooms.{Room, fits_room, room_fits, no_room, places_same
 use Rattle.mapping.specs.declared.Mapped.{Mapped}
 use Rattle.mapping.specs.MappingLine as mapping_line
 use Rattle.mapping.specs.MappingLine.{Lent, after, refusal, Before, After, Unwritten, MappingLine}
-use Rattle.reading.specs.Lines.{Rules, Code, Leads}
+use Rattle.reading.specs.Lines.{Rules, Code, Leads, with_map}
 
 -- what is lent to crate mapping, and the tables with what it gives back
 abbrev pub lent_of : Tables → List ℕ → Lent
@@ -37,6 +37,13 @@ lent_of t noted = record { map = t.map; values = t.values; noted = noted }
 
 abbrev pub mapped_in : Tables → Lent → Tables
 mapped_in t u = tables t.prefix t.matrix u.map t.proof t.marks u.values
+
+-- where only the map and the values were written, the prefix is that before
+pub map_same : (t u v : Tables) → v ≡ record u { map = v.map; values = v.values } → with_map t v ≡ record (with_map t u) { map = v.map; values = v.values }
+map_same t u v e = ap (λ (x : Tables). record t { prefix = x.prefix; map = v.map; values = v.values }) e
+
+pub map_lent : (t u : Tables) → u ≡ record t { map = u.map; values = u.values } → with_map t u ≡ u
+map_lent t u e = map_same t t u e ∙ sym e
 
 pub unwritten : (t : Tables) (noted : List ℕ) (u : Lent) (n : Places) → Unwritten (lent_of t noted) u → KeptAll n t (mapped_in t u)
 unwritten t noted u n e = let a = all_self n t in record {

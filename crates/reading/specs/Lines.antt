@@ -35,6 +35,10 @@ pub record Code (S P W : Type 0) : Type 1 where
   pub counts : P → Counts
   pub weight : P → ℕ
 
+-- the tables t with another's prefix, map and values tables: all that a mapping line depends on
+abbrev pub with_map : Tables → Tables → Tables
+with_map t u = record t { prefix = u.prefix; map = u.map; values = u.values }
+
 module _ {S P W : Type 0} (R : Rules S) (C : Code S P W) where
   -- a line of n bytes leaves the measure at most 2^22
   abbrev pub Light : P → ℕ → Type 0

@@ -41,7 +41,7 @@ use Rattle.rules.specs.declared.Rule.{Rule}
 use Rattle.rules.proofs.RuleLaws.{number_not_zero}
 use Rattle.progress.specs.declared.Work.{Work}
 use Rattle.progress.specs.Shown.{HintsShown, Shown, Light, Stepped}
-use Rattle.steps.specs.Judges.{kind_judge, Pending, Judges, Rest}
+use Rattle.steps.specs.Judges.{kind_judge, Pending, among, beside, Judges, Rest}
 use Rattle.steps.specs.Stands.{one_expansion, Standable, Stands}
 use Rattle.steps.specs.Expands.{hint_at, fits_at, rule_broken}
 use Rattle.steps.proofs.JudgeLaws.{judge_kind, judge_next, refused_in, accepted_in, judged_as}
@@ -139,9 +139,9 @@ module _ (p : Progress) (n m : ℕ) (t : Tables) (w : Work) {a : Result (Unit {0
 
   -- it stands
   module _ {x : Unit {0}} (z : a ≡ Ok x) {counts : Counts} (g : counts ≡ one_expansion p.counts) {u : Tables} {v : Work} {r : Progress} (rest : Rest t w u v)
-      (stands : Standable p n t w → Stands p counts n m t r u v) where
+      (stands : Standable p n t w → Stands p counts n m t r (among t u) (beside w v)) where
     module _ (c : Lits) (j : ℕ) (f : Formula) (s : State) (o : Pending p t n m c) (sh : Shown p t w f s) (l : Light p j) (i : n < j) where
-      stood : Stands p counts n m t r u v
+      stood : Stands p counts n m t r (among t u) (beside w v)
       stood = stands record {
         filled = sh.filled;
         count = o.count ∙ sym (length-map c code_of) ∙ ap length (sym o.stored);

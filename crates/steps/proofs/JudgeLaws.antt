@@ -17,7 +17,7 @@ use Rattle.progress.specs.declared.Progress.{Progress}
 use Rattle.std.specs.Prelude.{Result, Ok, Err}
 use Rattle.progress.specs.declared.Work.{Work}
 use Rattle.progress.specs.Shown.{Stepped}
-use Rattle.steps.specs.Judges.{kind_judge, Judges, Rest}
+use Rattle.steps.specs.Judges.{kind_judge, among, Judges, Rest}
 
 -- THE JUDGE, by the first rule that is broken
 module _ (L : Limits) (f : Formula) (s : State) (line : CertificateLine) where
@@ -64,6 +64,10 @@ module _ (f : Formula) (p : Progress) (n : ℕ) (t u : Tables) (w : Work) where
 
   pub accepted_in : {x : rules.Step State} {s : State} {q : Progress} → x ≡ next s → Stepped f p n t (next s) (Ok q) u w → Stepped f p n t x (Ok q) u w
   accepted_in {q} e h = subst (λ y. Stepped f p n t y (Ok q) u w) (sym e) h
+
+-- among any other tables too
+pub among_kept : (t u v : Tables) → v ≡ record u { marks = v.marks } → among t v ≡ record (among t u) { marks = v.marks }
+among_kept t u v e = ap (λ (x : Tables). record t { proof = x.proof; marks = v.marks }) e
 
 -- all but the marks, the trail and the watches stays
 pub judged_as : {kind : Lits → CertificateLine} {p : Progress} {n m : ℕ} {t u : Tables} {w v : Work} {r : Result Progress Rule} → Rest t w u v

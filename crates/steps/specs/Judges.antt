@@ -36,6 +36,14 @@ pub record Judges (kind : Lits → CertificateLine) (p : Progress) (n m : ℕ) (
   pub steps : (c : Lits) (k : ℕ) (f : Formula) (s : State) → Pending p t n m c → Shown p t w f s → Light p k → n < k
       → Stepped f p k t (kind_judge f s (kind c)) r u v
 
+-- the tables t with another's proof and marks tables, and the working memory w with another's trail and watches: all that an addition
+-- and a deletion depend on
+abbrev pub among : Tables → Tables → Tables
+among t u = record t { proof = u.proof; marks = u.marks }
+
+abbrev pub beside : Work → Work → Work
+beside w v = record w { trail = v.trail; watches = v.watches }
+
 -- ALL BUT THE MARKS stays in the tables, and all but the trail and the watches in the working memory
 abbrev pub Rest : Tables → Work → Tables → Work → Type 0
 Rest t w u v = (u ≡ record t { marks = u.marks }) × (v ≡ record w { trail = v.trail; watches = v.watches })

@@ -1,8 +1,10 @@
 // The judge of an addition; and a pending clause that stands from now on.
 ghost use Rattle.std.specs.Prelude.{◌≡◌};
 ghost use Rattle.rules.specs.Forms.{addition};
+ghost use Rattle.tables.specs.Tables.{Tables};
 ghost use Rattle.tables.specs.Lent.{tables_of, SameLent};
-ghost use Rattle.steps.specs.Judges.{Judges, Rest};
+ghost use Rattle.progress.specs.declared.Work.{Work};
+ghost use Rattle.steps.specs.Judges.{among, beside, Judges, Rest};
 ghost use Rattle.steps.specs.Stands.{Standable, Stands, one_addition};
 
 use clauses::Standing;
@@ -35,8 +37,8 @@ pub fn stand(
     tables: &mut LentTables,
     work: &mut Work,
 ) -> Progress
-    ensures answer { Standable p n (tables_of tables.old) work.old
-        → Stands p counts n m (tables_of tables.old) result (tables_of tables.new) work.new }
+    ensures answer { (t : Tables) (w : Work) → Standable p n (among t (tables_of tables.old)) (beside w work.old)
+        → Stands p counts n m (among t (tables_of tables.old)) result (among t (tables_of tables.new)) (beside w work.new) }
     ensures rest { Rest (tables_of tables.old) work.old (tables_of tables.new) work.new }
     ensures lent { SameLent tables.old tables.new }
 {
@@ -81,7 +83,8 @@ pub fn add(
     tables: &mut LentTables,
     work: &mut Work,
 ) -> Result<Progress, Rule>
-    ensures answer { Judges addition p n m (tables_of tables.old) work.old result (tables_of tables.new) work.new }
+    ensures answer { (t : Tables) (w : Work) → Judges addition p n m (among t (tables_of tables.old)) (beside w work.old)
+        result (among t (tables_of tables.new)) (beside w work.new) }
     ensures rest { Rest (tables_of tables.old) work.old (tables_of tables.new) work.new }
     ensures lent { SameLent tables.old tables.new }
 {

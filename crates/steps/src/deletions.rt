@@ -1,7 +1,9 @@
 // The judge of a deletion.
 ghost use Rattle.std.specs.Prelude.{◌≡◌};
+ghost use Rattle.tables.specs.Tables.{Tables};
 ghost use Rattle.tables.specs.Lent.{tables_of, SameLent};
-ghost use Rattle.steps.specs.Judges.{Deletes};
+ghost use Rattle.progress.specs.declared.Work.{Work};
+ghost use Rattle.steps.specs.Judges.{among, beside, Deletes};
 ghost use Rattle.steps.specs.Stands.{deleted_in};
 
 use progress::{Progress, Work, hint_left, one_more};
@@ -27,7 +29,8 @@ fn with_deletion(p: Progress) -> Progress
 // Rules 10 and 13 of the deletion whose distinct literals are on the trail, which was emptied before: the earliest standing clause of
 // the same set stands no more.
 pub fn delete(p: Progress, tables: &mut LentTables, work: &mut Work) -> Result<Progress, Rule>
-    ensures answer { Deletes p (tables_of tables.old) work.old result (tables_of tables.new) work.new }
+    ensures answer { (t : Tables) (w : Work) → Deletes p (among t (tables_of tables.old)) (beside w work.old)
+        result (among t (tables_of tables.new)) (beside w work.new) }
     ensures marks { tables_of tables.new ≡ record (tables_of tables.old) { marks = (tables_of tables.new).marks } }
     ensures trail { work.new ≡ record work.old { trail = record work.new.trail { literals = work.old.trail.literals } } }
     ensures lent { SameLent tables.old tables.new }

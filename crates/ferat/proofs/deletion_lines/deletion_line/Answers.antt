@@ -6,20 +6,20 @@ use Rattle.ferat.proofs.DeletionLaws.{deletion_bad, deletion_high, deletion_judg
 use Rattle.ferat.proofs.deletion_lines.deletion_line.Goals as goal
 
 pub returns-in_err-measure-clause-read : goal.returns-in_err-measure-clause-read
-returns-in_err-measure-clause-read c =
+returns-in_err-measure-clause-read c = λ t w.
     let r : c.from_residual.result ≡ Err c.in_err-measure.field-0.0 = search rules in
     let h = asked_none _ (sym c.ok_or.ensures.value ∙ c.in_err-measure.was) in
     rw (r, h.0) (deletion_bad _ _ _ _ _ (sym c.clause_at.ensures ∙ h.1) _)
 
 pub returns-then-measure-gt-COPIES-clause-read : goal.returns-then-measure-gt-COPIES-clause-read
-returns-then-measure-gt-COPIES-clause-read c =
+returns-then-measure-gt-COPIES-clause-read c = λ t w.
     deletion_high _ _ _ _ _ (sym c.clause_at.ensures ∙ asked_some _ (sym c.ok_or.ensures.value ∙ c.in_ok-measure.was)) c.if-measure-gt-COPIES.true _
 
 pub returns-then-not-list_line-clause-read : goal.returns-then-not-list_line-clause-read
-returns-then-not-list_line-clause-read c =
+returns-then-not-list_line-clause-read c = λ t w.
     absurd (clear (clause_list _ _ (sym c.clause_at.ensures ∙ asked_some _ (sym c.ok_or.ensures.value ∙ c.in_ok-measure.was))) (c.list_line.ensures.bad c.if-not-list_line.true))
 
 pub returns-clause-read : goal.returns-clause-read
-returns-clause-read c =
+returns-clause-read c = λ t w.
     deletion_judged _ _ _ _ _ (sym c.clause_at.ensures ∙ asked_some _ (sym c.ok_or.ensures.value ∙ c.in_ok-measure.was)) c.if-measure-gt-COPIES.false c.undo.ensures.undone
-    (λ h e. c.list_line.ensures.listed h e c.if-not-list_line.false) c.delete.ensures.answer
+    (λ h e. c.list_line.ensures.listed h e c.if-not-list_line.false) (c.delete.ensures.answer t w)

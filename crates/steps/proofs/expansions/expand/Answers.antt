@@ -1,4 +1,5 @@
 use Rattle.std.proofs.lemmas.Result.{err_from_is_err_and}
+use Rattle.tables.specs.Lent.{tables_of}
 use Rattle.steps.proofs.ExpandLaws.{expand_refused, expand_next}
 use Rattle.steps.proofs.expansions.expand.Goals as goal
 
@@ -8,4 +9,4 @@ returns-in_err-rule_broken-clause-answer c =
     rw (e.1, e.2) (expand_refused _ _ _ _ _ c.rule_broken.ensures c.in_err-rule_broken.was _)
 
 pub returns-clause-answer : goal.returns-clause-answer
-returns-clause-answer c = expand_next _ _ _ _ _ c.rule_broken.ensures c.in_ok-rule_broken.was c.with_expansion-counts.ensures c.stand.ensures.rest c.stand.ensures.answer
+returns-clause-answer c = expand_next _ _ _ _ _ c.rule_broken.ensures c.in_ok-rule_broken.was c.with_expansion-counts.ensures c.stand.ensures.rest (c.stand.ensures.answer (tables_of c.args.tables.now) c.args.work.now)
