@@ -1,5 +1,5 @@
 -- The order of the lines, hints, limits and counts, and the end, over the progress. Assumes nothing.
-use Rattle.std.specs.Prelude.{Bool, false, cond, List, ℕ, ◌+◌, ◌%◌, max, eqb, leb, ltb, ℤ, Option, Some, None}
+use Rattle.std.specs.Prelude.{Bool, false, cond, List, ℕ, max, eqb, leb, ltb, ℤ, Option, Some, None}
 use Rattle.std.specs.Option.{is_some}
 use Rattle.clauses.specs.Standing.{room_for, standing, places_of, has_empty}
 use Rattle.reading.specs.declared.Counts.{Counts}
@@ -28,10 +28,6 @@ hint_left p = with_hints p.hinted (λ count. ltb p.counts.expansions count)
 unfoldable pub limit_broken : Progress → ℕ → ℕ → ℕ → ℕ → ℕ → ℕ
 limit_broken p n m proof marks values =
     cond (leb m 16384) (cond (room_for p.store n proof marks) (cond (leb (max p.mapped.largest m) values) 0 15) 15) 3
-
--- one line more, in whatever state
-abbrev pub more : ℕ → ℕ
-more n = n % 1073741824 + 1
 
 -- AT THE END: the first of the rules 10 and 14 that is broken; 0 if none
 unfoldable pub end_broken : Progress → List ℤ → List ℤ → ℕ

@@ -50,7 +50,7 @@ pub record Shown (p : Progress) (t : Tables) (w : Work) (f : Formula) (s : State
   pub fresh : p.counts.expansions + p.counts.additions ≡ 0 → p.hinted ≡ prelude.None → p.store ≡ empty_above 0
   pub clauses : literals (clauses_of p t) ≡ s.standing
   pub filled : Filled t.proof t.marks p.store
-  pub held : HeldIn (clauses_of p t) w.trail
+  pub held : HeldIn (clauses_of p t) w.propagation.trail
   pub expansions : p.counts.expansions ≡ s.expansions
   pub additions : p.counts.additions ≡ s.additions
   pub deletions : p.counts.deletions ≡ s.deletions

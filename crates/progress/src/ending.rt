@@ -5,7 +5,6 @@ ghost use Rattle.progress.specs.Order.{end_broken};
 
 use crate::Progress;
 use crate::order::hint_left;
-use clauses::Standing;
 use rules::Rule;
 
 // The first of the rules 10 and 14 that is broken at the end.
@@ -16,13 +15,5 @@ pub fn end_broken(p: Progress, proof: &[i32], marks: &[i32]) -> Result<(), Rule>
     if hint_left(p) {
         return Err(Rule::HintCount);
     }
-    let standing = Standing {
-        proof,
-        marks,
-        count: clauses::places(p.store),
-    };
-    if !standing.empty_stands() {
-        return Err(Rule::NotClosed);
-    }
-    Ok(())
+    p.store.standing(proof, marks).closed()
 }

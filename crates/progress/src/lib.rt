@@ -10,10 +10,9 @@ use formula::Reading;
 use mapped::Noted;
 use mapping::Mapped;
 use matrix::Starts;
-pub use order::{before_additions, before_hints, hint_left, hint_missing, limit_broken, one_more};
-use propagation::Watches;
+pub use order::{before_additions, before_hints, hint_left, hint_missing, limit_broken};
+use propagation::Propagation;
 use reading::Counts;
-use trail::Trail;
 
 // What is carried from line to line, beside the tables and the working memory: what was read of the formula, the copies mapped, how
 // many hints the `o` line has if there was one, the clauses stored, the place on the trail up to which watches are followed, and the lines accepted.
@@ -27,12 +26,11 @@ pub struct Progress {
     pub counts: Counts,
 }
 
-// The working memory of a check: where the matrix clauses start, which copies are mapped, the literals that are false since they follow
-// from the standing clauses alone, and the watches.
+// The working memory of a check: where the matrix clauses start, which copies are mapped, and, for propagation, the literals that are
+// false since they follow from the standing clauses alone, and the watches.
 #[derive(Drop)]
 pub struct Work {
     pub starts: Starts,
     pub noted: Noted,
-    pub trail: Trail,
-    pub watches: Watches,
+    pub propagation: Propagation,
 }

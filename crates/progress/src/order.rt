@@ -1,9 +1,10 @@
 // The order of the certificate's lines, its hints and its limits.
 ghost use Rattle.std.specs.Prelude.{◌≡◌};
 ghost use Rattle.rules.specs.Rule.{broken};
-ghost use Rattle.progress.specs.Order.{no_additions, no_hints, hint_missing, hint_left, limit_broken, more};
+ghost use Rattle.progress.specs.Order.{no_additions, no_hints, hint_missing, hint_left, limit_broken};
 
 use crate::Progress;
+use lists::Measure;
 use mapped::COPIES;
 use reading::Counts;
 use rules::Rule;
@@ -45,33 +46,25 @@ pub fn hint_left(p: Progress) -> bool
         .is_some_and(|count| (p.counts.expansions as usize) < count)
 }
 
-// The first of the rules 3 and 15 that a clause of n literals with copies up to m breaks, in tables of these lengths.
+// The first of the rules 3 and 15 that a clause of this measure breaks, in tables of these lengths.
 #[tactic(auto, unfolding(crate::specs::Order::limit_broken))]
 pub fn limit_broken(
     p: Progress,
-    n: usize,
-    m: u32,
+    measure: Measure,
     proof: usize,
     marks: usize,
     values: usize,
 ) -> Result<(), Rule>
-    ensures { broken result ≡ limit_broken p n m proof marks values }
+    ensures { broken result ≡ limit_broken p measure.count measure.largest proof marks values }
 {
-    if COPIES < m as usize {
+    if COPIES < measure.largest as usize {
         return Err(Rule::OutOfRange);
     }
-    if !clauses::fits(p.store, n, proof, marks) {
+    if !p.store.fits(measure.count, proof, marks) {
         return Err(Rule::TableFull);
     }
-    if values < p.mapped.largest.max(m) as usize {
+    if values < p.mapped.largest.max(measure.largest) as usize {
         return Err(Rule::TableFull);
     }
     Ok(())
-}
-
-// One line more.
-pub fn one_more(n: u32) -> u32
-    ensures { result ≡ more n }
-{
-    n % 1073741824 + 1
 }

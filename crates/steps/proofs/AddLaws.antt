@@ -21,7 +21,7 @@ use Rattle.tables.specs.Tables.{Tables, lengths_of, KeptAll}
 use Rattle.tables.proofs.Frames.{all_self}
 use Rattle.clauses.specs.Standing.{standing, places_of, pending}
 use Rattle.trail.specs.declared.Trail.{Trail}
-use Rattle.propagation.specs.declared.Watches.{Watches}
+use Rattle.propagation.specs.declared.Propagation.{Propagation}
 use Rattle.propagation.specs.Answers.{HeldIn}
 use Rattle.redundancy.specs.Additions.{accepts, Decided, DecidedIn}
 use Rattle.reading.specs.declared.Counts.{Counts}
@@ -31,7 +31,8 @@ use Rattle.progress.specs.Order.{hint_left}
 use Rattle.progress.specs.declared.Work.{Work}
 use Rattle.progress.specs.Shown.{clauses_of, Shown, Light, Stepped}
 use Rattle.steps.specs.Judges.{kind_judge, Pending, Judges, Rest}
-use Rattle.steps.specs.Stands.{one_addition, Standable, Stands}
+use Rattle.reading.specs.Counting.{one_addition}
+use Rattle.steps.specs.Stands.{Standable, Stands}
 use Rattle.steps.proofs.JudgeLaws.{judge_kind, judge_next, refused_in, accepted_in, judged_as}
 use Rattle.progress.proofs.OrderLaws.{hint_left_lem}
 use Rattle.steps.proofs.StandLaws.{additions_add, clause_needs_lem, more_is, small_then, stood_kept, stood_shown, stood_weight}
@@ -69,16 +70,16 @@ module _ (p : Progress) (n m : ℕ) (t : Tables) (w : Work) where
         refused_in f p k t t v HintCount (judge_kind (limits (lengths_of t)) f s (addition c) (kinds sh o false h refl)) (all_self _ t);
   }
 
-  module _ (h : hint_left p ≡ false) (trail : Trail) (r : Option ℕ) {a b : List ℤ} {count : ℕ} (x : a ≡ t.proof) (z : b ≡ t.marks)
+  module _ (h : hint_left p ≡ false) (propagation : Propagation) (r : Option ℕ) {a b : List ℤ} {count : ℕ} (x : a ≡ t.proof) (z : b ≡ t.marks)
       (d : count ≡ places_of p.store) {codes : List ℕ} (y : codes ≡ pending a p.store)
-      (answered : HeldIn (standing a b count) w.trail
-      → DecidedIn (standing a b count) codes trail r) where
-    decided : HeldIn (clauses_of p t) w.trail → DecidedIn (clauses_of p t) (pending t.proof p.store) trail r
+      (answered : HeldIn (standing a b count) w.propagation.trail
+      → DecidedIn (standing a b count) codes propagation.trail r) where
+    decided : HeldIn (clauses_of p t) w.propagation.trail → DecidedIn (clauses_of p t) (pending t.proof p.store) propagation.trail r
     decided g =
         let e : standing a b count ≡ clauses_of p t = ap₂ (λ a b. standing a b count) x z ∙ ap (standing t.proof t.marks) d in
-        subst (λ S. DecidedIn S (pending t.proof p.store) trail r) e
-        (subst (λ c. DecidedIn (standing a b count) c trail r) (y ∙ ap (λ (a : List ℤ). pending a p.store) x)
-        (answered (subst (λ S. HeldIn S w.trail) (sym e) g)))
+        subst (λ S. DecidedIn S (pending t.proof p.store) propagation.trail r) e
+        (subst (λ c. DecidedIn (standing a b count) c propagation.trail r) (y ∙ ap (λ (a : List ℤ). pending a p.store) x)
+        (answered (subst (λ S. HeldIn S w.propagation.trail) (sym e) g)))
 
     -- "not implied"
     pub add_refused : r ≡ None → (v : Work) → Judges addition p n m t w (Err NotImplied) t v
@@ -86,17 +87,17 @@ module _ (p : Progress) (n m : ℕ) (t : Tables) (w : Work) where
       steps = λ c k f s o sh l i.
           refused_in f p k t t v NotImplied
           (judge_kind (limits (lengths_of t)) f s (addition c)
-          (kinds sh o true h (decided_no (clauses_of p t) (pending t.proof p.store) trail r (decided sh.held) e))) (all_self _ t);
+          (kinds sh o true h (decided_no (clauses_of p t) (pending t.proof p.store) propagation.trail r (decided sh.held) e))) (all_self _ t);
     }
 
     -- it stands
-    module _ {followed : ℕ} (e : r ≡ Some followed) {counts : Counts} (g : counts ≡ one_addition p.counts) (watches : Watches) {u : Tables} {v : Work} {q : Progress}
-        (rest : Rest t (record w { trail = trail; watches = watches }) u v)
-        (stands : Standable p n t (record w { trail = trail; watches = watches })
+    module _ {followed : ℕ} (e : r ≡ Some followed) {counts : Counts} (g : counts ≡ one_addition p.counts) {u : Tables} {v : Work} {q : Progress}
+        (rest : Rest t (record w { propagation = propagation }) u v)
+        (stands : Standable p n t (record w { propagation = propagation })
         → Stands p counts n m t q u v) where
       module _ (c : Lits) (k : ℕ) (f : Formula) (s : State) (o : Pending p t n m c) (sh : Shown p t w f s) (l : Light p k) (i : n < k) where
-        answer : HeldIn (clauses_of p t) trail × (accepts (clauses_of p t) (pending t.proof p.store) ≡ true)
-        answer = decided_yes (clauses_of p t) (pending t.proof p.store) trail r (decided sh.held) e
+        answer : HeldIn (clauses_of p t) propagation.trail × (accepts (clauses_of p t) (pending t.proof p.store) ≡ true)
+        answer = decided_yes (clauses_of p t) (pending t.proof p.store) propagation.trail r (decided sh.held) e
 
         stood : Stands p counts n m t q u v
         stood = stands record {
@@ -110,19 +111,19 @@ module _ (p : Progress) (n m : ℕ) (t : Tables) (w : Work) where
         one : counts.additions ≡ s.additions + 1
         one = ap (λ (x : Counts). x.additions) g ∙ more_is (omega (arith, l)) ∙ ap (λ x. x + 1) sh.additions
 
-        next_state : Stepped f p k t (kind_judge f s (addition c)) (Ok q) (record t { marks = u.marks }) (record w { trail = v.trail; watches = v.watches })
+        next_state : Stepped f p k t (kind_judge f s (addition c)) (Ok q) (record t { marks = u.marks }) (record w { propagation = v.propagation })
         unfolding accept
         next_state =
             accepted_in f p k t _ _ (judge_next (limits (lengths_of t)) f s (addition c) (kinds sh o true h answer.1)) (
-              subst (λ x. Shown q (record t { marks = u.marks }) (record w { trail = v.trail; watches = v.watches }) f
+              subst (λ x. Shown q (record t { marks = u.marks }) (record w { propagation = v.propagation }) f
                   (state s.mapped s.hinted (s.standing ++ (c ∷ [])) s.expansions (s.additions + 1) s.deletions x))
                   (sym (clause_needs_lem sh additions_add c o.count o.most))
-                  (stood_shown sh o counts stood.next stood.stood stood.held v.watches s.expansions (s.additions + 1) s.deletions
+                  (stood_shown sh o counts stood.next stood.stood v.propagation stood.held s.expansions (s.additions + 1) s.deletions
                   (ap (λ (x : Counts). x.expansions) g ∙ sh.expansions) one (ap (λ (x : Counts). x.deletions) g ∙ sh.deletions)
                   (λ a. omega (arith, a, one))),
               subst (λ x. KeptAll x t (record t { marks = u.marks })) (sym (clause_needs_lem sh additions_add c o.count o.most))
-                  (stood_kept sh o counts stood.next stood.stood stood.held),
-              stood_weight sh o counts stood.next stood.stood stood.held i
+                  (stood_kept sh o counts stood.next stood.stood),
+              stood_weight sh o counts stood.next stood.stood i
                   (omega (arith, one, sh.additions, ap (λ (x : Counts). x.expansions) g, ap (λ (x : Counts). x.deletions) g)),
             )
 

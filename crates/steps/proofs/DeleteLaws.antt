@@ -30,9 +30,10 @@ use Rattle.propagation.specs.Answers.{Held, HeldIn}
 use Rattle.propagation.proofs.MoveLaws.{held_empty}
 use Rattle.deletion.specs.Deletions.{ListedIn, list_in, Deleted}
 use Rattle.deletion.proofs.DeletionLaws.{deleted_as}
+use Rattle.reading.specs.Counting.{more}
 use Rattle.progress.specs.declared.Progress.{Progress}
 use Rattle.std.specs.Prelude.{Ok, Err}
-use Rattle.progress.specs.Order.{hint_left, more}
+use Rattle.progress.specs.Order.{hint_left}
 use Rattle.progress.specs.declared.Work.{Work}
 use Rattle.progress.specs.Shown.{needs_of, Shown, weight, Light, Stepped}
 use Rattle.steps.specs.Judges.{kind_judge, Listing, Deletes}
@@ -64,18 +65,18 @@ module _ (p : Progress) (t : Tables) (w : Work) where
   }
 
   module _ (h : hint_left p ≡ false) {count : ℕ} (j : count ≡ places_of p.store) (marks : List ℤ) (after : Trail) (none : after.length ≡ 0) {r : Bool}
-      (d : ListedIn w.trail → Deleted (list_in w.trail) t.proof t.marks marks count r × ReadyIn after) where
+      (d : ListedIn w.propagation.trail → Deleted (list_in w.propagation.trail) t.proof t.marks marks count r × ReadyIn after) where
     abbrev u : Tables
     u = record t { marks = marks }
 
     abbrev v : Work
-    v = record w { trail = after }
+    v = record w { propagation = record w.propagation { trail = after } }
 
-    module _ (c : Lits) (f : Formula) (s : State) (trail : Trail) (o : Listing c w.trail) (sh : Shown p t (record w { trail = trail }) f s) where
+    module _ (c : Lits) (f : Formula) (s : State) (trail : Trail) (o : Listing c w.propagation.trail) (sh : Shown p t (record w { propagation = record w.propagation { trail = trail } }) f s) where
       deleted : Deleted (map code_of c) t.proof t.marks marks (places_of p.store) r
       deleted =
           subst (λ i. Deleted (map code_of c) t.proof t.marks marks i r) j
-          (deleted_as (list_in w.trail) (map code_of c) o.same t.proof t.marks marks count r (d o.listed).0)
+          (deleted_as (list_in w.propagation.trail) (map code_of c) o.same t.proof t.marks marks count r (d o.listed).0)
 
       empty : HeldIn (standing t.proof marks (places_of p.store)) after
       empty =
@@ -139,8 +140,8 @@ module _ (p : Progress) (t : Tables) (w : Work) where
     pub delete_next : r ≡ true → {q : Progress} → q ≡ deleted_in p → Deletes p t w (Ok q) u v
     delete_next e {q} g = subst (λ q. Deletes p t w (Ok q) u v) (sym g) record { steps = next_state }
       where
-        next_state : (c : Lits) (k : ℕ) (f : Formula) (s : State) (trail : Trail) → Listing c w.trail
-            → Shown p t (record w { trail = trail }) f s → Light p k → 0 < k
+        next_state : (c : Lits) (k : ℕ) (f : Formula) (s : State) (trail : Trail) → Listing c w.propagation.trail
+            → Shown p t (record w { propagation = record w.propagation { trail = trail } }) f s → Light p k → 0 < k
             → Stepped f p k t (kind_judge f s (deletion c)) (Ok (deleted_in p)) u v
         next_state c k f s trail o sh l i =
             accepted_in f p k t u v

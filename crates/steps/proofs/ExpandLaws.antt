@@ -42,7 +42,8 @@ use Rattle.rules.proofs.RuleLaws.{number_not_zero}
 use Rattle.progress.specs.declared.Work.{Work}
 use Rattle.progress.specs.Shown.{HintsShown, Shown, Light, Stepped}
 use Rattle.steps.specs.Judges.{kind_judge, Pending, among, beside, Judges, Rest}
-use Rattle.steps.specs.Stands.{one_expansion, Standable, Stands}
+use Rattle.reading.specs.Counting.{one_expansion}
+use Rattle.steps.specs.Stands.{Standable, Stands}
 use Rattle.steps.specs.Expands.{hint_at, fits_at, rule_broken}
 use Rattle.steps.proofs.JudgeLaws.{judge_kind, judge_next, refused_in, accepted_in, judged_as}
 use Rattle.progress.proofs.OrderLaws.{hint_missing_lem}
@@ -153,19 +154,19 @@ module _ (p : Progress) (n m : ℕ) (t : Tables) (w : Work) {a : Result (Unit {0
       one : counts.expansions ≡ s.expansions + 1
       one = ap (λ (x : Counts). x.expansions) g ∙ more_is (omega (arith, l)) ∙ ap (λ x. x + 1) sh.expansions
 
-      next_state : Stepped f p j t (kind_judge f s (expansion c)) (Ok r) (record t { marks = u.marks }) (record w { trail = v.trail; watches = v.watches })
+      next_state : Stepped f p j t (kind_judge f s (expansion c)) (Ok r) (record t { marks = u.marks }) (record w { propagation = v.propagation })
       unfolding accept
       next_state =
           accepted_in f p j t _ _ (judge_next (limits (lengths_of t)) f s (expansion c) (kinds sh o q ∙ ap (λ a. refusal (broken a)) z)) (
-            subst (λ x. Shown r (record t { marks = u.marks }) (record w { trail = v.trail; watches = v.watches }) f
+            subst (λ x. Shown r (record t { marks = u.marks }) (record w { propagation = v.propagation }) f
                 (state s.mapped s.hinted (s.standing ++ (c ∷ [])) (s.expansions + 1) s.additions s.deletions x))
                 (sym (clause_needs_lem sh expansions_add c o.count o.most))
-                (stood_shown sh o counts stood.next stood.stood stood.held v.watches (s.expansions + 1) s.additions s.deletions
+                (stood_shown sh o counts stood.next stood.stood v.propagation stood.held (s.expansions + 1) s.additions s.deletions
                 one (ap (λ (x : Counts). x.additions) g ∙ sh.additions) (ap (λ (x : Counts). x.deletions) g ∙ sh.deletions)
                 (λ y. omega (arith, y, one))),
             subst (λ x. KeptAll x t (record t { marks = u.marks })) (sym (clause_needs_lem sh expansions_add c o.count o.most))
-                (stood_kept sh o counts stood.next stood.stood stood.held),
-            stood_weight sh o counts stood.next stood.stood stood.held i
+                (stood_kept sh o counts stood.next stood.stood),
+            stood_weight sh o counts stood.next stood.stood i
                 (omega (arith, one, sh.expansions, ap (λ (x : Counts). x.additions) g, ap (λ (x : Counts). x.deletions) g)),
           )
 

@@ -71,7 +71,7 @@ among_kept t u v e = ap (λ (x : Tables). record t { proof = x.proof; marks = v.
 
 -- all but the marks, the trail and the watches stays
 pub judged_as : {kind : Lits → CertificateLine} {p : Progress} {n m : ℕ} {t u : Tables} {w v : Work} {r : Result Progress Rule} → Rest t w u v
-    → Judges kind p n m t w r (record t { marks = u.marks }) (record w { trail = v.trail; watches = v.watches }) → Judges kind p n m t w r u v
+    → Judges kind p n m t w r (record t { marks = u.marks }) (record w { propagation = v.propagation }) → Judges kind p n m t w r u v
 judged_as {kind} {p} {n} {m} {t} {u} {w} {v} {r} e j =
     subst (λ v. Judges kind p n m t w r u v) (sym e.1)
-    (subst (λ u. Judges kind p n m t w r u (record w { trail = v.trail; watches = v.watches })) (sym e.0) j)
+    (subst (λ u. Judges kind p n m t w r u (record w { propagation = v.propagation })) (sym e.0) j)

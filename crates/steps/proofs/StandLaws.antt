@@ -20,9 +20,8 @@ use Rattle.clauses.specs.Standing.{standing, places_of, literals, proof_need, ma
 use Rattle.clauses.specs.declared.Store.{Store}
 use Rattle.clauses.proofs.StandingLaws.{literals_more}
 use Rattle.clauses.proofs.StoreLaws.{proof_grown, marks_grown, place_new}
-use Rattle.propagation.specs.declared.Watches.{Watches}
+use Rattle.propagation.specs.declared.Propagation.{Propagation}
 use Rattle.propagation.proofs.HeldLaws.{held_stood}
-use Rattle.trail.specs.declared.Trail.{Trail}
 use Rattle.propagation.specs.Answers.{HeldIn}
 use Rattle.reading.specs.declared.Counts.{Counts}
 use Rattle.std.specs.Prelude as prelude
@@ -86,9 +85,8 @@ module _ {p : Progress} {t : Tables} {w : Work} {f : Formula} {s : State} (sh : 
   higher : proof_need p.store ≤ proof_need (grown p.store n)
   higher = omega (arith, proof_grown p.store n)
 
-  module _ (counts : Counts) {marks : List ℤ} {trail : Trail} {q : Progress} (next : q ≡ stood_in p counts n m q.followed)
-      (stood : Stood t.proof t.marks marks p.store n)
-      (held : HeldIn (standing t.proof marks (places_of (grown p.store n))) trail) where
+  module _ (counts : Counts) {marks : List ℤ} {q : Progress} (next : q ≡ stood_in p counts n m q.followed)
+      (stood : Stood t.proof t.marks marks p.store n) where
     abbrev u : Tables
     u = record t { marks = marks }
 
@@ -102,10 +100,10 @@ module _ {p : Progress} {t : Tables} {w : Work} {f : Formula} {s : State} (sh : 
         ap (λ i. fits (places (length t.prefix) (length t.matrix) (length t.map) (length t.proof) i (length t.values)) (needs_with p n m))
         stood.kept.long ∙ clause_room sh n m o.proof o.marks o.values
 
-    pub stood_shown : (watches : Watches) (e a d : ℕ) → counts.expansions ≡ e → counts.additions ≡ a → counts.deletions ≡ d → (counts.expansions + counts.additions ≡ 0 → ⊥)
-        → Shown q u (record w { trail = trail; watches = watches }) f (state s.mapped s.hinted (s.standing ++ (c ∷ [])) e a d (needs_with p n m))
-    stood_shown watches e a d i j k z =
-        subst (λ r. Shown r u (record w { trail = trail; watches = watches }) f (state s.mapped s.hinted (s.standing ++ (c ∷ [])) e a d (needs_with p n m))) (sym next) record {
+    pub stood_shown : (propagation : Propagation) → HeldIn (standing t.proof marks (places_of (grown p.store n))) propagation.trail → (e a d : ℕ) → counts.expansions ≡ e → counts.additions ≡ a → counts.deletions ≡ d → (counts.expansions + counts.additions ≡ 0 → ⊥)
+        → Shown q u (record w { propagation = propagation }) f (state s.mapped s.hinted (s.standing ++ (c ∷ [])) e a d (needs_with p n m))
+    stood_shown propagation held e a d i j k z =
+        subst (λ r. Shown r u (record w { propagation = propagation }) f (state s.mapped s.hinted (s.standing ++ (c ∷ [])) e a d (needs_with p n m))) (sym next) record {
           formula = sh.formula;
           indexed = sh.indexed;
           mapping = sh.mapping;
@@ -151,12 +149,12 @@ module _ (p : Progress) (counts : Counts) (n m : ℕ) (t : Tables) (w : Work) wh
 
   pub stands_then : {largest : ℕ} → largest ≡ max p.mapped.largest m → {place : ℕ} → place ≡ places_of p.store → (store : Store) (marks : List ℤ)
       → StandsNow t.marks marks p.store n store → {a b : List ℤ} {count : ℕ} → a ≡ t.proof → b ≡ marks → count ≡ places_of store
-      → (followed : ℕ) (trail : Trail) (watches : Watches)
-      → (HeldIn (standing a b count) w.trail → place < count
-      → HeldIn (standing a b count) trail)
+      → (followed : ℕ) (propagation : Propagation)
+      → (HeldIn (standing a b count) w.propagation.trail → place < count
+      → HeldIn (standing a b count) propagation.trail)
       → Standable p n t w
-      → Stands p counts n m t (standing_as largest store followed) (record t { marks = marks }) (record w { trail = trail; watches = watches })
-  stands_then {largest} e {place} g store marks stand {a} {b} {count} i j k followed trail watches attach o =
+      → Stands p counts n m t (standing_as largest store followed) (record t { marks = marks }) (record w { propagation = propagation })
+  stands_then {largest} e {place} g store marks stand {a} {b} {count} i j k followed propagation attach o =
       let d = stand o.small o.room in
       let st = d.1 t.proof o.filled o.count in
       let q : count ≡ places_of (grown p.store n) = k ∙ ap places_of d.0 in
@@ -166,7 +164,7 @@ module _ (p : Progress) (counts : Counts) (n m : ℕ) (t : Tables) (w : Work) wh
         next = ap₂ (λ l s. standing_as l s followed) e d.0;
         stood = st;
         held =
-            subst (λ S. HeldIn S trail) z
-            (attach (subst (λ S. HeldIn S w.trail) (sym z) (held_stood st o.held))
+            subst (λ S. HeldIn S propagation.trail) z
+            (attach (subst (λ S. HeldIn S w.propagation.trail) (sym z) (held_stood st o.held))
             (omega (arith, g, q, place_new p.store n)));
       }

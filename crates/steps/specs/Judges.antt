@@ -42,11 +42,11 @@ abbrev pub among : Tables → Tables → Tables
 among t u = record t { proof = u.proof; marks = u.marks }
 
 abbrev pub beside : Work → Work → Work
-beside w v = record w { trail = v.trail; watches = v.watches }
+beside w v = record w { propagation = v.propagation }
 
 -- ALL BUT THE MARKS stays in the tables, and all but the trail and the watches in the working memory
 abbrev pub Rest : Tables → Work → Tables → Work → Type 0
-Rest t w u v = (u ≡ record t { marks = u.marks }) × (v ≡ record w { trail = v.trail; watches = v.watches })
+Rest t w u v = (u ≡ record t { marks = u.marks }) × (v ≡ record w { propagation = v.propagation })
 
 -- THE JUDGE of a deletion, whose distinct literals are on the trail, which was emptied before: c as a set
 pub record Listing (c : Lits) (t : Trail) : Type 0 where
@@ -54,5 +54,5 @@ pub record Listing (c : Lits) (t : Trail) : Type 0 where
   pub same : (x : ℕ) → is_in (list_in t) x ≡ is_in (map code_of c) x
 
 pub record Deletes (p : Progress) (t : Tables) (w : Work) (r : Result Progress Rule) (u : Tables) (v : Work) : Type 0 where
-  pub steps : (c : Lits) (k : ℕ) (f : Formula) (s : State) (trail : Trail) → Listing c w.trail
-      → Shown p t (record w { trail = trail }) f s → Light p k → 0 < k → Stepped f p k t (kind_judge f s (deletion c)) r u v
+  pub steps : (c : Lits) (k : ℕ) (f : Formula) (s : State) (trail : Trail) → Listing c w.propagation.trail
+      → Shown p t (record w { propagation = record w.propagation { trail = trail } }) f s → Light p k → 0 < k → Stepped f p k t (kind_judge f s (deletion c)) r u v

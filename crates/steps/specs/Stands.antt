@@ -5,20 +5,10 @@ use Rattle.tables.specs.Tables.{Tables}
 use Rattle.clauses.specs.Standing.{standing, places_of, pending, proof_need, marks_need, grown, Filled, Stood}
 use Rattle.propagation.specs.Answers.{HeldIn}
 use Rattle.reading.specs.declared.Counts.{Counts}
+use Rattle.reading.specs.Counting.{one_deletion}
 use Rattle.progress.specs.declared.Progress.{Progress}
 use Rattle.progress.specs.declared.Work.{Work}
-use Rattle.progress.specs.Order.{more}
 use Rattle.progress.specs.Shown.{clauses_of}
-
--- one line more
-abbrev pub one_expansion : Counts → Counts
-one_expansion c = record { expansions = more c.expansions; additions = c.additions; deletions = c.deletions }
-
-abbrev pub one_addition : Counts → Counts
-one_addition c = record { expansions = c.expansions; additions = more c.additions; deletions = c.deletions }
-
-abbrev pub one_deletion : Counts → Counts
-one_deletion c = record { expansions = c.expansions; additions = c.additions; deletions = more c.deletions }
 
 -- what is needed with a clause of n literals more, copies up to m
 abbrev pub needs_with : Progress → ℕ → ℕ → Places
@@ -54,10 +44,10 @@ pub record Standable (p : Progress) (n : ℕ) (t : Tables) (w : Work) : Type 0 w
   pub count : n ≡ length (pending t.proof p.store)
   pub small : proof_need (grown p.store n) < 1073741824
   pub room : marks_need (grown p.store n) ≤ length t.marks
-  pub held : HeldIn (clauses_of p t) w.trail
+  pub held : HeldIn (clauses_of p t) w.propagation.trail
 
 -- it stands
 pub record Stands (p : Progress) (counts : Counts) (n m : ℕ) (t : Tables) (q : Progress) (u : Tables) (v : Work) : Type 0 where
   pub next : q ≡ stood_in p counts n m q.followed
   pub stood : Stood t.proof t.marks u.marks p.store n
-  pub held : HeldIn (standing t.proof u.marks (places_of (grown p.store n))) v.trail
+  pub held : HeldIn (standing t.proof u.marks (places_of (grown p.store n))) v.propagation.trail

@@ -6,8 +6,7 @@ ghost use Rattle.progress.specs.declared.Work.{Work};
 ghost use Rattle.steps.specs.Judges.{among, beside, Deletes};
 ghost use Rattle.steps.specs.Stands.{deleted_in};
 
-use progress::{Progress, Work, hint_left, one_more};
-use reading::Counts;
+use progress::{Progress, Work, hint_left};
 use rules::Rule;
 use tables::LentTables;
 
@@ -15,13 +14,9 @@ use tables::LentTables;
 fn with_deletion(p: Progress) -> Progress
     ensures { result ≡ deleted_in p }
 {
-    let counts = Counts {
-        deletions: one_more(p.counts.deletions),
-        ..p.counts
-    };
     Progress {
         followed: 0,
-        counts,
+        counts: p.counts.with_deletion(),
         ..p
     }
 }
@@ -32,15 +27,18 @@ pub fn delete(p: Progress, tables: &mut LentTables, work: &mut Work) -> Result<P
     ensures answer { (t : Tables) (w : Work) → Deletes p (among t (tables_of tables.old)) (beside w work.old)
         result (among t (tables_of tables.new)) (beside w work.new) }
     ensures marks { tables_of tables.new ≡ record (tables_of tables.old) { marks = (tables_of tables.new).marks } }
-    ensures trail { work.new ≡ record work.old { trail = record work.new.trail { literals = work.old.trail.literals } } }
+    ensures trail { work.new ≡ record work.old {
+      propagation = record work.old.propagation
+          { trail = record work.new.propagation.trail { literals = work.old.propagation.trail.literals } };
+    } }
     ensures lent { SameLent tables.old tables.new }
 {
     if hint_left(p) {
         return Err(Rule::HintCount);
     }
-    let count = clauses::places(p.store);
+    let count = p.store.places();
     let proof = &mut *tables.proof;
-    if deletion::delete(proof, tables.marks, count, &mut work.trail) {
+    if deletion::delete(proof, tables.marks, count, &mut work.propagation.trail) {
         return Ok(with_deletion(p));
     }
     Err(Rule::NothingToDelete)

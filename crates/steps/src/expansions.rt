@@ -4,15 +4,14 @@ ghost use Rattle.rules.specs.Rule.{broken};
 ghost use Rattle.rules.specs.Forms.{expansion};
 ghost use Rattle.tables.specs.Lent.{tables_of, SameLent};
 ghost use Rattle.steps.specs.Judges.{Judges, Rest};
-ghost use Rattle.steps.specs.Stands.{one_expansion};
 ghost use Rattle.steps.specs.Expands.{hint_at, fits_at, rule_broken};
 
 use crate::additions::stand;
 use copies::View;
 use copies::marks::CODES;
+use lists::Measure;
 use matrix::Starts;
-use progress::{Progress, Work, hint_missing, one_more};
-use reading::Counts;
+use progress::{Progress, Work, hint_missing};
 use rules::Rule;
 use tables::LentTables;
 
@@ -36,7 +35,7 @@ fn fits(p: Progress, size: usize, tables: &LentTables, starts: &Starts) -> bool
         values: tables.values,
         map: tables.map,
         proof: tables.proof,
-        line: clauses::written(p.store),
+        line: p.store.written(),
     };
     let matrix = &*tables.matrix;
     if p.hinted.is_some() {
@@ -52,7 +51,7 @@ fn fits(p: Progress, size: usize, tables: &LentTables, starts: &Starts) -> bool
 fn rule_broken(p: Progress, size: usize, tables: &LentTables, work: &Work) -> Result<(), Rule>
     ensures { broken result ≡ rule_broken p (tables_of tables.now) work.now }
 {
-    if !unmapped::all_mapped(clauses::pending(tables.proof, p.store), &work.noted) {
+    if !unmapped::all_mapped(p.store.pending(tables.proof), &work.noted) {
         return Err(Rule::Unmapped);
     }
     if hint_missing(p) {
@@ -64,29 +63,25 @@ fn rule_broken(p: Progress, size: usize, tables: &LentTables, work: &Work) -> Re
     Ok(())
 }
 
-// One expansion more.
-fn with_expansion(c: Counts) -> Counts
-    ensures { result ≡ one_expansion c }
-{
-    Counts {
-        expansions: one_more(c.expansions),
-        ..c
-    }
-}
-
-// Rules 9, 10 and 11 of the pending clause, which has n literals and copies up to m: it stands, or is refused.
+// Rules 9, 10 and 11 of the pending clause, of this measure: it stands, or is refused.
 pub fn expand(
     p: Progress,
-    n: usize,
-    m: u32,
+    measure: Measure,
     tables: &mut LentTables,
     work: &mut Work,
 ) -> Result<Progress, Rule>
-    ensures answer { Judges expansion p n m (tables_of tables.old) work.old result (tables_of tables.new) work.new }
+    ensures answer { Judges expansion p measure.count measure.largest (tables_of tables.old) work.old result
+        (tables_of tables.new) work.new }
     ensures rest { Rest (tables_of tables.old) work.old (tables_of tables.new) work.new }
     ensures lent { SameLent tables.old tables.new }
 {
-    rule_broken(p, n, tables, work)?;
-    let counts = with_expansion(p.counts);
-    Ok(stand(p, counts, p.followed, n, m, tables, work))
+    rule_broken(p, measure.count, tables, work)?;
+    Ok(stand(
+        p,
+        p.counts.with_expansion(),
+        p.followed,
+        measure,
+        tables,
+        work,
+    ))
 }

@@ -1,8 +1,7 @@
-use mathlib.Core.Path.{◌∙◌}
 use Rattle.steps.proofs.StandLaws.{stands_then}
 use Rattle.steps.proofs.additions.stand.Goals as goal
 
 pub returns-clause-answer : goal.returns-clause-answer
 returns-clause-answer c = λ t w o.
-    let d = c.standing_below-standing.ensures in
-    stands_then _ _ _ _ _ _ c.max.ensures c.places-place.ensures _ _ c.stand-store.ensures d.proof d.marks (d.count ∙ c.places.ensures) _ _ _ c.attach-followed.ensures o
+    let d = c.standing-standing.ensures in
+    stands_then _ _ _ _ _ _ c.max.ensures c.places-place.ensures _ _ c.stand-store.ensures d.proof d.marks d.count _ _ c.attach-followed.ensures o

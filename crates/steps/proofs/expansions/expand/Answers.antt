@@ -9,4 +9,4 @@ returns-in_err-rule_broken-clause-answer c =
     rw (e.1, e.2) (expand_refused _ _ _ _ _ c.rule_broken.ensures c.in_err-rule_broken.was _)
 
 pub returns-clause-answer : goal.returns-clause-answer
-returns-clause-answer c = expand_next _ _ _ _ _ c.rule_broken.ensures c.in_ok-rule_broken.was c.with_expansion-counts.ensures c.stand.ensures.rest (c.stand.ensures.answer (tables_of c.args.tables.now) c.args.work.now)
+returns-clause-answer c = expand_next _ _ _ _ _ c.rule_broken.ensures c.in_ok-rule_broken.was c.with_expansion.ensures c.stand.ensures.rest (c.stand.ensures.answer (tables_of c.args.tables.now) c.args.work.now)
