@@ -5,11 +5,8 @@ use mathlib.Core.List.{List}
 use Prim.Native.Nat.{ℕ}
 use native.Mathlib.Omega.{arith}
 use lib.ListN.{length}
+use lib.IntN.{ℤ}
 use Rattle.std.proofs.Common.{Option, Some, None}
-use Rattle.std.specs.Prelude.{Err, ok_or}
-use Rattle.rules.specs.Rule.{number}
-use Rattle.rules.specs.declared.Rule.{Rule}
-use Rattle.rules.specs.declared.Rule.TheVariants.{BadParent}
 use Rattle.copies.specs.Marks.{Unmarked}
 use Rattle.copies.proofs.Choices.{yes, no}
 use Rattle.tables.specs.Tables.{Tables}
@@ -54,33 +51,26 @@ module _ (p : Progress) (n : ℕ) (t : Tables) (w : Work) where
       no_expansion z = yes _ _ _ (sym mapped_is ∙ y) (no _ _ _ (sym expands_is ∙ z) refl)
 
 -- RULE 16
-missing_is : {x : Option ℕ} {k : Rule} → Err k ≡ ok_or x BadParent → x ≡ None → number k ≡ 16
-missing_is {x} {k} e z = by x e z
-  where
-    by : (x : Option ℕ) → Err k ≡ ok_or x BadParent → x ≡ None → number k ≡ 16
-    by None e z = ap number (let y : k ≡ BadParent = cc in y)
-    by (Some n) e z = cc
-
 module _ (p : Progress) (a b : ℕ) (t : Tables) (w : Work) {x : Option ℕ} (e : x ≡ place_at w.indexes a) where
-  pub first_missing : {k : Rule} → Err k ≡ ok_or x BadParent → x ≡ None → number k ≡ parents_broken p a b t.proof t.marks w.indexes
+  pub first_missing : x ≡ None → 16 ≡ parents_broken p a b t.proof t.marks w.indexes
   unfolding parents_broken
-  first_missing h z = missing_is h z ∙ ap (λ x. by_places p t.proof t.marks x (place_at w.indexes b)) (sym z ∙ e)
+  first_missing z = ap (λ x. by_places p t.proof t.marks x (place_at w.indexes b)) (sym z ∙ e)
 
   module _ {i : ℕ} (z : x ≡ Some i) {y : Option ℕ} (g : y ≡ place_at w.indexes b) where
     by_places_lem : {u : Option ℕ} → y ≡ u → by_places p t.proof t.marks (Some i) u ≡ parents_broken p a b t.proof t.marks w.indexes
     unfolding parents_broken
     by_places_lem h = ap₂ (by_places p t.proof t.marks) (sym z ∙ e) (sym h ∙ g)
 
-    pub second_missing : {k : Rule} → Err k ≡ ok_or y BadParent → y ≡ None → number k ≡ parents_broken p a b t.proof t.marks w.indexes
-    second_missing o h = missing_is o h ∙ by_places_lem h
+    pub second_missing : y ≡ None → 16 ≡ parents_broken p a b t.proof t.marks w.indexes
+    second_missing h = by_places_lem h
 
-    module _ {j : ℕ} (h : y ≡ Some j) {c d k : List ℕ} (l : c ≡ pending t.proof p.store)
-        (first : d ≡ clause_at t.proof t.marks i) (second : k ≡ clause_at t.proof t.marks j) {seen' : List ℕ} {o : Bool}
+    module _ {j : ℕ} (h : y ≡ Some j) {c d k : List ℕ} (l : c ≡ pending t.proof p.store) {proof marks : List ℤ} (same : proof ≡ t.proof)
+        (alike : marks ≡ t.marks) (first : d ≡ clause_at proof marks i) (second : k ≡ clause_at proof marks j) {seen' : List ℕ} {o : Bool}
         (r : Clear w.seen → (o ≡ resolves c d k) × Clear seen') where
       resolves_is : Clear w.seen → o ≡ resolves (pending t.proof p.store) (clause_at t.proof t.marks i) (clause_at t.proof t.marks j)
       resolves_is s =
           (r s).0 ∙ ap (λ c. resolves c d k) l
-          ∙ ap₂ (resolves (pending t.proof p.store)) first second
+          ∙ ap₂ (resolves (pending t.proof p.store)) (first ∙ ap₂ (λ t m. clause_at t m i) same alike) (second ∙ ap₂ (λ t m. clause_at t m j) same alike)
 
       pub parents_judged : {q : ℕ} → q ≡ cond o 0 16 → ParentsJudged p a b t w q seen'
       parents_judged m s = (m ∙ ap (λ o. cond o 0 16) (resolves_is s) ∙ by_places_lem h, (r s).1)

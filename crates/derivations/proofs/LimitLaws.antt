@@ -5,7 +5,7 @@ use Prim.Native.Nat.{ℕ, ◌+◌, ◌-◌, ◌<◌, ◌≤◌, max}
 use native.Mathlib.Omega.{arith}
 use lib.Dec.{leb}
 use borrow.Author.Tests.{leb-true, leb-false, le-leb, lt-leb}
-use Rattle.clauses.specs.Standing.{proof_need, marks_need, places_of, grown, room_for}
+use Rattle.clauses.specs.Standing.{proof_need, places_of, grown, room_for}
 use Rattle.clauses.proofs.StoreLaws.{proof_grown, marks_grown}
 use Rattle.derivations.specs.declared.Progress.{Progress}
 use Rattle.derivations.specs.declared.Derivation.{Derivation}
@@ -30,7 +30,7 @@ same_test a b c d f g = go (leb a b) refl
         later true h = absurd (omega (arith, g (leb-true c d h), leb-false a b e))
         later false h = leb-false c d h
 
--- WHAT THE CODE TESTS, where k clauses are stored
+-- WHAT THE CODE TESTS
 module _ (p : Progress) (d : Derivation) (proof marks values : ℕ) where
   abbrev need : ℕ
   need = proof_need p.store + places_of p.store + d.size + 2
@@ -38,24 +38,17 @@ module _ (p : Progress) (d : Derivation) (proof marks values : ℕ) where
   abbrev rest : Bool
   rest = leb (max p.mapped.largest d.largest) values
 
-  module _ {k : ℕ} (i : k ≡ places_of p.store) where
-    pub places_none : proof ≤ k → false ≡ has_places p d proof marks values
+  module _ {free : ℕ} (i : free ≡ proof - places_of p.store - 1) {b : Bool} (e : b ≡ room_for p.store d.size free marks) where
+    same : room_for p.store d.size free marks && rest ≡ has_places p d proof marks values
     unfolding has_places
-    places_none l =
-        first_false (leb need proof && leb (marks_need p.store + 1) marks) rest
-        (sym (first_false (leb need proof) (leb (marks_need p.store + 1) marks) (lt-leb need proof (omega (arith, i)))))
+    same =
+        ap₂ (λ a b. a && b && rest)
+        (same_test (proof_need (grown p.store d.size)) free need proof (λ h. omega (arith, i, proof_grown p.store d.size))
+        (λ h. omega (arith, i, proof_grown p.store d.size)))
+        (ap (λ z. leb z marks) (marks_grown p.store d.size))
 
-    module _ (l : k < proof) {b : Bool} (e : b ≡ room_for p.store d.size (proof - k - 1) marks) where
-      same : room_for p.store d.size (proof - k - 1) marks && rest ≡ has_places p d proof marks values
-      unfolding has_places
-      same =
-          ap₂ (λ a b. a && b && rest)
-          (same_test (proof_need (grown p.store d.size)) (proof - k - 1) need proof (λ h. omega (arith, i, proof_grown p.store d.size))
-          (λ h. omega (arith, i, proof_grown p.store d.size)))
-          (ap (λ z. leb z marks) (marks_grown p.store d.size))
+    pub places_room : b ≡ false → false ≡ has_places p d proof marks values
+    places_room z = first_false (room_for p.store d.size free marks) rest (sym e ∙ z) ∙ same
 
-      pub places_room : b ≡ false → false ≡ has_places p d proof marks values
-      places_room z = first_false (room_for p.store d.size (proof - k - 1) marks) rest (sym e ∙ z) ∙ same
-
-      pub places_values : b ≡ true → {x : ℕ} → x ≡ max p.mapped.largest d.largest → leb x values ≡ has_places p d proof marks values
-      places_values y j = first_true (room_for p.store d.size (proof - k - 1) marks) (sym e ∙ y) (ap (λ z. leb z values) j) ∙ same
+    pub places_values : b ≡ true → {x : ℕ} → x ≡ max p.mapped.largest d.largest → leb x values ≡ has_places p d proof marks values
+    places_values y j = first_true (room_for p.store d.size free marks) (sym e ∙ y) (ap (λ z. leb z values) j) ∙ same

@@ -14,6 +14,7 @@ use Rattle.clauses.specs.declared.Store.{Store}
 use Rattle.clauses.specs.Standing.{pending, proof_need, marks_need, places_of, StandsNow}
 use Rattle.indexes.specs.Shown.{noted}
 use Rattle.reading.specs.declared.Counts.{Counts}
+use Rattle.reading.specs.Counting.{one_expansion, one_addition}
 use Rattle.reading.specs.Lines.{Light, Leads}
 use Rattle.derivations.specs.declared.Progress.{Progress}
 use Rattle.derivations.specs.declared.Reason.{Reason}
@@ -46,10 +47,10 @@ pub record Pending (p : Progress) (t : Tables) (d : Derivation) (c : Lits) : Typ
   pub marks : marks_need p.store + 1 ≤ length t.marks
   pub values : max p.mapped.largest d.largest ≤ length t.values
 
--- one line more, in whatever state
+-- one line more
 abbrev pub counted_by : Reason → Counts → Counts
-counted_by (Clause n) c = record { expansions = c.expansions % 1073741824 + 1; additions = c.additions; deletions = c.deletions }
-counted_by (Parents a b) c = record { expansions = c.expansions; additions = c.additions % 1073741824 + 1; deletions = c.deletions }
+counted_by (Clause n) c = one_expansion c
+counted_by (Parents a b) c = one_addition c
 
 -- the progress with one clause more
 abbrev pub stood_in : Progress → Derivation → Store → Progress

@@ -6,7 +6,6 @@ ghost use Rattle.derivations.specs.Rules.{ExpansionJudged, ParentsJudged, RuleJu
 ghost use Rattle.derivations.specs.Judges.{counted_by, Judges, StandsAs, OnlyMarksIn, OnlyTestedIn, OnlyDerivedIn};
 
 use crate::{Derivation, Progress, Reason, Work};
-use clauses::Standing;
 use copies::View;
 use indexes::Indexes;
 use mapping::Mapped;
@@ -25,7 +24,7 @@ fn expansion_broken(
     ensures broken { ExpansionJudged p n (tables_of tables.now) work.old (broken result) work.new.seen }
     ensures rest { OnlyTestedIn work.old work.new }
 {
-    if !unmapped::all_mapped(clauses::pending(tables.proof, p.store), &work.noted) {
+    if !unmapped::all_mapped(p.store.pending(tables.proof), &work.noted) {
         return Err(Rule::Unmapped);
     }
     let view = View {
@@ -33,7 +32,7 @@ fn expansion_broken(
         values: tables.values,
         map: tables.map,
         proof: tables.proof,
-        line: clauses::written(p.store),
+        line: p.store.written(),
     };
     if !expansion::expands_named(
         view,
@@ -62,19 +61,10 @@ fn parents_broken(
 {
     let i = indexes::place_of(&work.indexes, a).ok_or(Rule::BadParent)?;
     let j = indexes::place_of(&work.indexes, b).ok_or(Rule::BadParent)?;
-    let standing = Standing {
-        proof: tables.proof,
-        marks: tables.marks,
-        count: clauses::places(p.store),
-    };
+    let standing = p.store.standing(tables.proof, tables.marks);
     let d = standing.clause(i);
     let e = standing.clause(j);
-    if !resolvents::resolves(
-        clauses::pending(tables.proof, p.store),
-        d,
-        e,
-        &mut work.seen,
-    ) {
+    if !resolvents::resolves(p.store.pending(tables.proof), d, e, &mut work.seen) {
         return Err(Rule::BadParent);
     }
     Ok(())
@@ -96,14 +86,8 @@ fn with_line(c: Counts, reason: Reason) -> Counts
     ensures { result ≡ counted_by reason c }
 {
     match reason {
-        Reason::Clause(_) => Counts {
-            expansions: c.expansions % 1073741824 + 1,
-            ..c
-        },
-        Reason::Parents(_, _) => Counts {
-            additions: c.additions % 1073741824 + 1,
-            ..c
-        },
+        Reason::Clause(_) => c.with_expansion(),
+        Reason::Parents(_, _) => c.with_addition(),
     }
 }
 
@@ -111,17 +95,17 @@ fn with_line(c: Counts, reason: Reason) -> Counts
 fn stand(p: Progress, d: Derivation, marks: &mut [i32], indexes: &mut Indexes) -> Progress
     ensures { StandsAs p d marks.old indexes.old result marks.new indexes.new }
 {
-    let place = (clauses::places(p.store) % 1073741824) as u32;
-    let store = clauses::stand(marks, p.store, d.size);
+    let place = (p.store.places() % 1073741824) as u32;
+    let store = p.store.stand(marks, d.size);
     indexes::note(indexes, d.index, place);
     Progress {
-        formula: p.formula,
         mapped: Mapped {
-            used: p.mapped.used,
             largest: p.mapped.largest.max(d.largest),
+            ..p.mapped
         },
         store,
         counts: with_line(p.counts, d.reason),
+        ..p
     }
 }
 

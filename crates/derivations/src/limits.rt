@@ -32,12 +32,8 @@ fn in_range(p: Progress, d: Derivation) -> bool
 fn has_places(p: Progress, d: Derivation, proof: usize, marks: usize, values: usize) -> bool
     ensures { result ≡ has_places p d proof marks values }
 {
-    let count = clauses::places(p.store);
-    if proof <= count {
-        return false;
-    }
-    clauses::fits(p.store, d.size, proof - count - 1, marks)
-        && p.mapped.largest.max(d.largest) as usize <= values
+    let free = proof.saturating_sub(p.store.places()).saturating_sub(1);
+    p.store.fits(d.size, free, marks) && p.mapped.largest.max(d.largest) as usize <= values
 }
 
 // The first of the rules 3 and 15 that a clause line breaks, in tables of these lengths.
