@@ -19,6 +19,8 @@ HoldsIn t ys = Holds t.seen.now t.held.now t.count ys
 abbrev pub IsEmpty : Least → Type 0
 IsEmpty t = Unmarked t.seen.now × (8194 ≤ length t.held.now) × (t.count ≡ 0)
 
--- the arrays that are lent are the same two
+-- the arrays that are lent are the same two, as long as before
 abbrev pub SameArrays : Least → Least → Type 0
-SameArrays t u = (u.seen.ghost_name ≡ t.seen.ghost_name) × (u.held.ghost_name ≡ t.held.ghost_name)
+SameArrays t u =
+    (u.seen.ghost_name ≡ t.seen.ghost_name) × (u.held.ghost_name ≡ t.held.ghost_name) × (length u.seen.now ≡ length t.seen.now)
+    × (length u.held.now ≡ length t.held.now)

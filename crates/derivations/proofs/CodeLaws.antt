@@ -11,7 +11,8 @@ use Rattle.copies.specs.Marks.{Unmarked}
 use Rattle.copies.proofs.Choices.{yes, no}
 use Rattle.tables.specs.Tables.{Tables}
 use Rattle.unmapped.specs.Copies.{all_mapped}
-use Rattle.expansion.specs.Codes.{expands_named}
+use Rattle.copies.specs.declared.View.{View}
+use Rattle.expansion.specs.Codes.{expands_named, expands_named_in}
 use Rattle.clauses.specs.Standing.{pending, written_at, clause_at}
 use Rattle.indexes.specs.Shown.{place_at}
 use Rattle.resolvents.specs.Marks.{Clear}
@@ -37,10 +38,11 @@ module _ (p : Progress) (n : ℕ) (t : Tables) (w : Work) where
     unfolding expansion_broken
     unmapped_copy z = no _ _ _ (sym mapped_is ∙ z) refl
 
-    module _ (y : b ≡ true) {l : ℕ} (h : l ≡ written_at p.store) {x : Bool}
-        (g : x ≡ expands_named t.prefix t.values t.map t.proof l t.matrix w.starts n) where
+    module _ (y : b ≡ true) {line : ℕ} (h : line ≡ written_at p.store) (v : View) (v-prefix : v.prefix.now ≡ t.prefix)
+        (v-values : v.values.now ≡ t.values) (v-map : v.map.now ≡ t.map) (v-proof : v.proof.now ≡ t.proof) (v-line : v.line ≡ line) {x : Bool}
+        (g : x ≡ expands_named_in v t.matrix w.starts n) where
       expands_is : x ≡ expands_named t.prefix t.values t.map t.proof (written_at p.store) t.matrix w.starts n
-      expands_is = g ∙ ap (λ l. expands_named t.prefix t.values t.map t.proof l t.matrix w.starts n) h
+      expands_is = rw (sym v-prefix, sym v-values, sym v-map, sym v-proof, sym h, sym v-line) g
 
       pub expansion_is : x ≡ true → 0 ≡ expansion_broken p n t w
       unfolding expansion_broken

@@ -6,6 +6,7 @@ ghost use Rattle.derivations.specs.Rules.{ExpansionJudged, ParentsJudged, RuleJu
 ghost use Rattle.derivations.specs.Judges.{counted_by, Judges, StandsAs, OnlyMarksIn, OnlyTestedIn, OnlyDerivedIn};
 
 use crate::{Derivation, Progress, Reason, Work};
+use assignment::least::Least;
 use copies::View;
 use indexes::Indexes;
 use mapping::Mapped;
@@ -27,22 +28,9 @@ fn expansion_broken(
     if !unmapped::all_mapped(p.store.pending(tables.proof), &work.noted) {
         return Err(Rule::Unmapped);
     }
-    let view = View {
-        prefix: tables.prefix,
-        values: tables.values,
-        map: tables.map,
-        proof: tables.proof,
-        line: p.store.written(),
-    };
-    if !expansion::expands_named(
-        view,
-        size,
-        tables.matrix,
-        &work.starts,
-        n as usize,
-        &mut work.seen,
-        &mut work.held,
-    ) {
+    let view = View::of(tables, p.store.written(), size);
+    let mut least = Least::new(&mut work.seen, &mut work.held);
+    if !expansion::expands_named(view, tables.matrix, &work.starts, n as usize, &mut least) {
         return Err(Rule::NoExpansion);
     }
     Ok(())

@@ -7,6 +7,7 @@ ghost use Rattle.steps.specs.Judges.{Judges, Rest};
 ghost use Rattle.steps.specs.Expands.{hint_at, fits_at, rule_broken};
 
 use crate::additions::stand;
+use assignment::least::Least;
 use copies::View;
 use copies::marks::CODES;
 use lists::Measure;
@@ -30,20 +31,14 @@ fn fits(p: Progress, size: usize, tables: &LentTables, starts: &Starts) -> bool
 {
     let mut seen = [0u8; CODES];
     let mut held = [0u16; CODES];
-    let view = View {
-        prefix: tables.prefix,
-        values: tables.values,
-        map: tables.map,
-        proof: tables.proof,
-        line: p.store.written(),
-    };
-    let matrix = &*tables.matrix;
+    let mut least = Least::new(&mut seen, &mut held);
+    let view = View::of(tables, p.store.written(), size);
     if p.hinted.is_some() {
         let n = hint_at(tables.proof, p.counts.expansions);
-        return expansion::expands_named(view, size, matrix, starts, n, &mut seen, &mut held);
+        return expansion::expands_named(view, tables.matrix, starts, n, &mut least);
     }
     let c = p.formula.c as usize;
-    expansion::expands_any(view, size, matrix, starts, c, &mut seen, &mut held)
+    expansion::expands_any(view, tables.matrix, starts, c, &mut least)
 }
 
 // The first of the rules 9, 10 and 11 that the pending clause, of `size` literals, breaks.

@@ -9,7 +9,7 @@ use Rattle.expansion.proofs.expands_any.Goals as goal
 
 pub loop-i-init : goal.loop-i-init
 unfolding expands_any
-loop-i-init c = record { lent = (refl, refl); answer = λ e. (e, any_start (expands_at _ _ _ _ _ _) _ _) }
+loop-i-init c = record { lent = (refl, refl, refl, refl); answer = λ e. (e, any_start (expands_at _ _ _ _ _ _) _ _) }
 
 pub returns-then-expands-clause-answer : goal.returns-then-expands-clause-answer
 returns-then-expands-clause-answer c = λ e.

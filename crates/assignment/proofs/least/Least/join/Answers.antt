@@ -4,7 +4,7 @@ use Rattle.assignment.proofs.least.Least.join.Goals as goal
 
 pub loop-y-preserved : goal.loop-y-preserved
 loop-y-preserved c = let l = c.loop-y.invariant in record {
-  lent = (c.add.ensures.lent.0 ∙ l.lent.0, c.add.ensures.lent.1 ∙ l.lent.1);
+  lent = let s = c.add.ensures.lent in (s.0 ∙ l.lent.0, s.1 ∙ l.lent.1, s.2 ∙ l.lent.2, s.3 ∙ l.lent.3);
   held = λ h.
       let v = l.held h in
       let a = c.add.ensures.held v.0 in

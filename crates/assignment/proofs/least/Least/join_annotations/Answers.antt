@@ -9,7 +9,7 @@ use Rattle.assignment.proofs.least.Least.join_annotations.Goals as goal
 
 pub loop-x-init : goal.loop-x-init
 loop-x-init c = record {
-  lent = (refl, refl);
+  lent = (refl, refl, refl, refl);
   held = λ h. (
     h,
     join_past _ _,
@@ -20,7 +20,7 @@ loop-x-init c = record {
 
 pub loop-x-preserved-then-a-last : goal.loop-x-preserved-then-a-last
 loop-x-preserved-then-a-last c = let l = c.loop-x.invariant in record {
-  lent = (c.join.ensures.lent.0 ∙ l.lent.0, c.join.ensures.lent.1 ∙ l.lent.1);
+  lent = let s = c.join.ensures.lent in (s.0 ∙ l.lent.0, s.1 ∙ l.lent.1, s.2 ∙ l.lent.2, s.3 ∙ l.lent.3);
   held = λ h.
       let v = l.held h in
       let a = c.join.ensures.held v.0 in

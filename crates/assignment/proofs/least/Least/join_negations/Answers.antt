@@ -8,7 +8,7 @@ join_negation-requires c = (first_code _ _ _ _ c.in-Some.ensures.steps).2
 
 pub loop-y-preserved : goal.loop-y-preserved
 loop-y-preserved c = let l = c.loop-y.invariant in record {
-  lent = (c.join_negation.ensures.lent.0 ∙ l.lent.0, c.join_negation.ensures.lent.1 ∙ l.lent.1);
+  lent = let s = c.join_negation.ensures.lent in (s.0 ∙ l.lent.0, s.1 ∙ l.lent.1, s.2 ∙ l.lent.2, s.3 ∙ l.lent.3);
   held = λ h.
       let v = l.held h in
       let a = c.join_negation.ensures.held v.0 in
