@@ -15,7 +15,7 @@ use Rattle.ferat.specs.Check.{begun, FormulaChecked}
 use Rattle.ferat.proofs.StartLaws.{shown_start, light_start}
 
 pub formula_checked : (r : Reading) (p : Progress) → p ≡ begun r → (cs : List ℕ) (t : Tables) (w : Work) → w.starts ≡ index_of t.matrix r.used (replicate 8193 0)
-    → w.noted ≡ replicate 16385 0 → ReadyIn w.trail → w.trail.length ≡ 0
+    → w.noted ≡ replicate 16385 0 → ReadyIn w.propagation.trail → w.propagation.trail.length ≡ 0
     → (x : Ended) (u : Tables) → (length cs ≤ 1048576 → CertificateRead cs p t w x u) → length cs ≤ 1048576 → FormulaChecked cs r t x u
 formula_checked r p e cs t w i j ready none x u h z f a b =
     subst (λ q. CertificateRead cs q t w x u) e (h z) f (shown_start r t f a b i j ready none) (light_start r)

@@ -155,9 +155,9 @@ module _ (bs : List ℕ) (at : ℕ) (p : Progress) (t : Tables) (w : Work) where
     }
 
     -- the trail was emptied, and the line's literals were listed on it
-    module _ (l : m ≤ 16384) {t₀ t₁ : Trail} (undone : TrailedIn w.trail → 0 ≤ w.trail.length → UndoneIn w.trail 0 t₀)
+    module _ (l : m ≤ 16384) {t₀ t₁ : Trail} (undone : TrailedIn w.propagation.trail → 0 ≤ w.propagation.trail.length → UndoneIn w.propagation.trail 0 t₀)
         (o : Listed t₀.falses t₀.literals t₀.length → t₀.length ≡ 0 → LineListed bs at t₁) {r : Result Progress Rule} {u : Tables} {v : Work}
-        (d : Deletes p t (record w { trail = t₁ }) r u v) where
+        (d : Deletes p t (record w { propagation = record w.propagation { trail = t₁ } }) r u v) where
       codes_are : line_codes bs at ≡ map code_of c
       unfolding line_codes
       codes_are =
@@ -165,12 +165,12 @@ module _ (bs : List ℕ) (at : ℕ) (p : Progress) (t : Tables) (w : Work) where
           ∙ codes_written c (listed_range seen.listing l (omega arith))
 
       module _ {f : Formula} {s : State} (sh : Shown p t w f s) where
-        emptied : UndoneIn w.trail 0 t₀
+        emptied : UndoneIn w.propagation.trail 0 t₀
         emptied = undone sh.held.ready.trailed (omega arith)
 
         none : Listed t₀.falses t₀.literals t₀.length
         none =
-            rw (emptied.1, emptied.2) (listed_start t₀.falses w.trail.literals emptied.0.trailed)
+            rw (emptied.1, emptied.2) (listed_start t₀.falses w.propagation.trail.literals emptied.0.trailed)
 
         listed : LineListed bs at t₁
         listed = o none emptied.2
@@ -185,5 +185,5 @@ module _ (bs : List ℕ) (at : ℕ) (p : Progress) (t : Tables) (w : Work) where
       deletion_judged = record {
         steps = λ f s sh i.
             subst (λ x. Stepped f p (length bs) t x r u v) (sym (judged_line f s (rest sh)))
-            (d.steps c (length bs) f s w.trail (there sh) sh i (omega (arith, count_low seen)));
+            (d.steps c (length bs) f s w.propagation.trail (there sh) sh i (omega (arith, count_low seen)));
       }

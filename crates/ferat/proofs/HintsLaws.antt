@@ -178,7 +178,7 @@ module _ (bs : List ℕ) (at : ℕ) (p : Progress) (t : Tables) (w : Work) where
                 fresh = λ x y. absurd (clear refl (ap is_some y));
                 clauses = ap literals empty_then ∙ sh.clauses;
                 filled = filled_hints t.proof u t.marks (lits_at bs at) there (omega (arith, m, seen.listing.count)) (ap (λ i. i + 1) seen.listing.count);
-                held = subst (λ S. Held S w.trail.falses w.trail.literals w.trail.length) (sym empty_then) sh.held;
+                held = subst (λ S. Held S w.propagation.trail.falses w.propagation.trail.literals w.propagation.trail.length) (sym empty_then) sh.held;
                 expansions = sh.expansions;
                 additions = sh.additions;
                 deletions = sh.deletions;

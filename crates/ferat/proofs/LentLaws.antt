@@ -23,8 +23,8 @@ three_lent t u e = sym (three_same t t u (ap (λ (x : Tables). x.values) e)) ∙
 pub among_lent : (t u : Tables) → u ≡ record t { marks = u.marks } → among t u ≡ u
 among_lent t u e = among_kept t t u e ∙ sym e
 
-pub beside_lent : (w v : Work) → v ≡ record w { trail = v.trail } → beside w v ≡ v
-beside_lent w v e = ap (λ (x : Work). record w { trail = v.trail; watches = x.watches }) e ∙ sym e
+pub beside_lent : (w v : Work) → v ≡ record w { propagation = record w.propagation { trail = v.propagation.trail } } → beside w v ≡ v
+beside_lent w v e = ap (λ (x : Work). record w { propagation = x.propagation }) e ∙ sym e
 
 pub line_lent : {form : List Token → Option CertificateLine} {bs : List ℕ} {at : ℕ} {p : Progress} {t : Tables} {w : Work} {r : Result Progress Rule}
     {u u' : Tables} {v v' : Work} → u ≡ u' → v ≡ v' → Line form bs at p t w r u v → Line form bs at p t w r u' v'

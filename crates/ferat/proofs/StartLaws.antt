@@ -30,8 +30,8 @@ module _ (r : Reading) (t : Tables) (f : Formula) (h : Holds r t.prefix t.matrix
   shown = formula_shown r t.prefix t.matrix f h w
 
   -- NOTHING IS READ YET, and the working memory is of zeros but for the index
-  pub shown_start : {m : Work} → m.starts ≡ index_of t.matrix r.used (replicate 8193 0) → m.noted ≡ replicate 16385 0 → ReadyIn m.trail
-      → m.trail.length ≡ 0 → Shown (begun r) t m f (start f)
+  pub shown_start : {m : Work} → m.starts ≡ index_of t.matrix r.used (replicate 8193 0) → m.noted ≡ replicate 16385 0 → ReadyIn m.propagation.trail
+      → m.propagation.trail.length ≡ 0 → Shown (begun r) t m f (start f)
   unfolding formula_needs
   shown_start {m} e i ready none = record {
     formula = shown;
@@ -45,9 +45,9 @@ module _ (r : Reading) (t : Tables) (f : Formula) (h : Holds r t.prefix t.matrix
     clauses = ap literals (standing_above t.proof t.marks 0);
     filled = filled_above t.proof t.marks 0 (λ z. absurd (omega arith));
     held =
-        subst (Held (standing t.proof t.marks (places_of (empty_above 0))) m.trail.falses m.trail.literals) (sym none)
-        (held_empty (standing t.proof t.marks (places_of (empty_above 0))) m.trail.falses m.trail.literals
-        (subst (Ready m.trail.falses m.trail.literals) none ready));
+        subst (Held (standing t.proof t.marks (places_of (empty_above 0))) m.propagation.trail.falses m.propagation.trail.literals) (sym none)
+        (held_empty (standing t.proof t.marks (places_of (empty_above 0))) m.propagation.trail.falses m.propagation.trail.literals
+        (subst (Ready m.propagation.trail.falses m.propagation.trail.literals) none ready));
     expansions = refl;
     additions = refl;
     deletions = refl;

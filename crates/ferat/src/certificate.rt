@@ -13,10 +13,11 @@ use crate::hint_lines::hints_line;
 use crate::kinds::{Kind as Line, kind_of};
 use crate::mapping_lines::mapping_line;
 use certificates::{Checker, Kind};
+use clauses::Store;
 use formula::Reading;
 use mapping::Mapped;
 use progress::{Progress, Work};
-use propagation::{END, Watches};
+use propagation::{END, Propagation, Watches};
 use reading::{Counts, Ended};
 use rules::Rule;
 use tables::LentTables;
@@ -74,7 +75,7 @@ fn begin(r: Reading) -> Progress
             largest: 0,
         },
         hinted: None,
-        store: clauses::above(0),
+        store: Store::above(0),
         followed: 0,
         counts: Counts::default(),
     }
@@ -93,15 +94,17 @@ impl Checker for Ferat {
         let mut work = Work {
             starts: [0; 8193],
             noted: [0; 16385],
-            trail: Trail {
-                falses: [0; 65536],
-                literals: [0; 65536],
-                length: 0,
-            },
-            watches: Watches {
-                first: [END; 65536],
-                next: [END; 262144],
-                pair: [END; 131072],
+            propagation: Propagation {
+                trail: Trail {
+                    falses: [0; 65536],
+                    literals: [0; 65536],
+                    length: 0,
+                },
+                watches: Watches {
+                    first: [END; 65536],
+                    next: [END; 262144],
+                    pair: [END; 131072],
+                },
             },
         };
         let clauses = &mut *tables.matrix;

@@ -23,7 +23,7 @@ pub fn expansion_line(
         (tables_of tables.old) work.old result (tables_of tables.new) work.new }
     ensures rest { tables_of tables.new ≡ record (tables_of tables.old)
         { proof = (tables_of tables.new).proof; marks = (tables_of tables.new).marks } }
-    ensures work { work.new ≡ record work.old { trail = work.new.trail; watches = work.new.watches } }
+    ensures work { work.new ≡ record work.old { propagation = work.new.propagation } }
     ensures lent { SameLent tables.old tables.new }
 {
     let measure = lists::clause_at(line, at).ok_or(Rule::Malformed)?;
@@ -32,14 +32,13 @@ pub fn expansion_line(
     }
     limit_broken(
         p,
-        measure.count,
-        measure.largest,
+        measure,
         tables.proof.len(),
         tables.marks.len(),
         tables.values.len(),
     )?;
-    clauses::store_line(line, at, tables.proof, p.store)?;
-    steps::expand(p, measure.count, measure.largest, tables, work)
+    p.store.store_line(line, at, tables.proof)?;
+    steps::expand(p, measure, tables, work)
 }
 
 // Literals and `0`.
@@ -53,18 +52,17 @@ pub fn addition_line(
         (with_three t (tables_of tables.old)) (beside w work.old) result (with_three t (tables_of tables.new)) (beside w work.new) }
     ensures rest { tables_of tables.new ≡ record (tables_of tables.old)
         { proof = (tables_of tables.new).proof; marks = (tables_of tables.new).marks } }
-    ensures work { work.new ≡ record work.old { trail = work.new.trail; watches = work.new.watches } }
+    ensures work { work.new ≡ record work.old { propagation = work.new.propagation } }
     ensures lent { SameLent tables.old tables.new }
 {
     let measure = lists::clause_at(line, 0).ok_or(Rule::Malformed)?;
     limit_broken(
         p,
-        measure.count,
-        measure.largest,
+        measure,
         tables.proof.len(),
         tables.marks.len(),
         tables.values.len(),
     )?;
-    clauses::store_line(line, 0, tables.proof, p.store)?;
-    steps::add(p, measure.count, measure.largest, tables, work)
+    p.store.store_line(line, 0, tables.proof)?;
+    steps::add(p, measure, tables, work)
 }

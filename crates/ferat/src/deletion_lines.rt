@@ -41,15 +41,18 @@ pub fn deletion_line(
     ensures read { (t : Tables) (w : Work) → Line (clause_form deletion) line.now at p
         (among t (tables_of tables.old)) (beside w work.old) result (among t (tables_of tables.new)) (beside w work.new) }
     ensures marks { tables_of tables.new ≡ record (tables_of tables.old) { marks = (tables_of tables.new).marks } }
-    ensures trail { work.new ≡ record work.old { trail = work.new.trail } }
+    ensures trail { work.new ≡ record work.old {
+      propagation = record work.old.propagation
+          { trail = work.new.propagation.trail };
+    } }
     ensures lent { SameLent tables.old tables.new }
 {
     let measure = lists::clause_at(line, at).ok_or(Rule::Malformed)?;
     if COPIES < measure.largest as usize {
         return Err(Rule::OutOfRange);
     }
-    work.trail.undo(0);
-    if !list_line(line, at, &mut work.trail) {
+    work.propagation.trail.undo(0);
+    if !list_line(line, at, &mut work.propagation.trail) {
         return Err(Rule::Malformed);
     }
     steps::delete(p, tables, work)

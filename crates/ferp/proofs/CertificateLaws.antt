@@ -1,17 +1,17 @@
 -- Laws of the end of a certificate. Assumes nothing.
 use mathlib.Core.Path.{◌≡◌, refl, ap, sym, ◌∙◌}
 use mathlib.Core.Bool.{Bool, true, false, cond}
+use mathlib.Core.List.{List}
 use Prim.Native.Nat.{ℕ}
-use Rattle.std.specs.Prelude.{Result, Ok, Err}
+use lib.IntN.{ℤ}
+use Rattle.std.specs.Prelude.{Result}
 use Rattle.rules.specs.Rule.{broken}
 use Rattle.rules.specs.declared.Rule.{Rule}
-use Rattle.rules.specs.declared.Rule.TheVariants.{NotClosed}
 use Rattle.lines.specs.Lists.{any, is_empty}
 use Rattle.rules.specs.Formula.{Formula}
 use Rattle.rules.specs.Step.{◌unless◌}
 use Rattle.ferp_rules.specs.Lines.{Derived, certificate_end}
 use Rattle.tables.specs.Tables.{Tables}
-use Rattle.copies.proofs.Choices.{yes, no}
 use Rattle.clauses.specs.Standing.{standing, places_of, has_empty}
 use Rattle.reading.proofs.GoingLaws.{numbered}
 use Rattle.certificates.specs.Kind.{EndRead}
@@ -32,17 +32,7 @@ ended_is {p} {t} i f s sh =
     go false = refl
 
 -- and what the code tests
-module _ (p : Progress) (t : Tables) {n : ℕ} (i : n ≡ places_of p.store) {b : Bool} (g : b ≡ has_empty (standing t.proof t.marks n)) where
-  derived_empty : b ≡ has_empty (standing t.proof t.marks (places_of p.store))
-  derived_empty = g ∙ ap (λ n. has_empty (standing t.proof t.marks n)) i
-
-  ends : (r : Result (Unit {0}) Rule) → broken r ≡ end_broken p t.proof t.marks → EndRead ferp_rules ferp_code p t r
-  ends r e = record { ends = λ w f s sh. ended_is {w = w} e f s sh }
-
-  pub end_closed : b ≡ true → EndRead ferp_rules ferp_code p t (Ok tt)
-  unfolding end_broken
-  end_closed z = ends (Ok tt) (yes (has_empty (standing t.proof t.marks (places_of p.store))) 0 14 (sym derived_empty ∙ z) refl)
-
-  pub end_open : b ≡ false → EndRead ferp_rules ferp_code p t (Err NotClosed)
-  unfolding end_broken
-  end_open z = ends (Err NotClosed) (no (has_empty (standing t.proof t.marks (places_of p.store))) 0 14 (sym derived_empty ∙ z) refl)
+pub end_tested : (p : Progress) (t : Tables) {proof marks : List ℤ} {count : ℕ} → proof ≡ t.proof → marks ≡ t.marks → count ≡ places_of p.store
+    → {r : Result (Unit {0}) Rule} → broken r ≡ cond (has_empty (standing proof marks count)) 0 14 → EndRead ferp_rules ferp_code p t r
+unfolding end_broken
+end_tested p t a b c {r} e = record { ends = λ w f s sh. ended_is {w = w} (e ∙ rw (a, b, c) refl) f s sh }

@@ -11,7 +11,7 @@ use crate::clause_lines::clause_line;
 use crate::kinds::{Kind as Line, kind_of};
 use crate::mapping_lines::mapping_line;
 use certificates::{Checker, Kind};
-use clauses::Standing;
+use clauses::Store;
 use copies::marks::CODES;
 use derivations::{Progress, Work};
 use formula::Reading;
@@ -51,15 +51,7 @@ impl Kind for Ferp {
 
     // Whether an empty clause was derived.
     fn end(p: Progress, tables: &LentTables) -> Result<(), Rule> {
-        let standing = Standing {
-            proof: tables.proof,
-            marks: tables.marks,
-            count: clauses::places(p.store),
-        };
-        if !standing.empty_stands() {
-            return Err(Rule::NotClosed);
-        }
-        Ok(())
+        p.store.standing(tables.proof, tables.marks).closed()
     }
 
     fn counts(p: Progress) -> Counts {
@@ -77,7 +69,7 @@ fn begin(r: Reading) -> Progress
             used: 0,
             largest: 0,
         },
-        store: clauses::above(0),
+        store: Store::above(0),
         counts: Counts::default(),
     }
 }

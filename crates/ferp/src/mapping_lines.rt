@@ -15,7 +15,7 @@ use tables::LentTables;
 fn before_clauses(p: Progress) -> bool
     ensures { result ≡ no_clause p }
 {
-    clauses::places(p.store) == 0
+    p.store.places() == 0
 }
 
 // "the same mapping lines", from the place after the letter on.
