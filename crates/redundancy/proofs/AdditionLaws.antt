@@ -16,11 +16,13 @@ use Rattle.rules.proofs.Kit.{clear, by_yes, all_in, in_all_lem, keep_in, in_keep
 use Rattle.rules.proofs.CodesLaw.{lit_flip}
 use Rattle.std.specs.Prelude.{Some, None}
 use Rattle.std.proofs.lemmas.Option.{none-some, same_Some}
+use denote.Enum.Bare.{sameb}
+use Rattle.rules.specs.contracts.Outcome.{the_type}
 use Rattle.rules.specs.declared.Outcome.{Outcome}
 use Rattle.rules.specs.declared.Outcome.TheVariants as outcome
 use Rattle.trail.specs.declared.Trail.{Trail}
 use Rattle.clauses.specs.Standing.{stands, clause_at, standing, literals}
-use Rattle.trail.specs.Trail.{truth, Ready, Undone}
+use Rattle.trail.specs.Trail.{truth, Trailed, Ready, Undone}
 use Rattle.propagation.specs.Answers.{Good, Denies, Holds, Moved, Clash, Visited, Held, HeldIn}
 use Rattle.redundancy.specs.Additions.{rup_of, rat_on, rat_of, first_of, accepts, less_code, Both, Refuted, Follows, Tried, Decided, DecidedIn}
 use Rattle.trail.proofs.TrailLaws.{ready_back}
@@ -42,19 +44,20 @@ module _ (S : List (List ℕ)) (c : List ℕ) where
   follows_kept {t} {n} {f'} {t'} {n'} w h = λ Q g d k lt.
       let less : k < n = omega (arith, w.same) in ap (λ (x : ℕ). Q (flip x)) (w.kept k less) ∙ h Q g d k less
 
-  module _ (d : List ℕ) {f t : List ℕ} {n : ℕ} {f' t' : List ℕ} {k : ℕ} {b : Trail} (u : Undone f' t' n b.falses × (b.literals ≡ t') × (b.length ≡ n)) where
-    tried : Moved (Both S (c ++ d)) f t n f' t' k → Tried t n b.falses b.literals b.length
-    tried m = record { ready = ready_back m.ready u; same = u.2; kept = λ j h. ap (λ (x : List ℕ). get_or x j 0) u.1 ∙ m.kept j h }
+  module _ (d f : List ℕ) {t : List ℕ} {n : ℕ} {f' t' : List ℕ} {k : ℕ} {b : Trail}
+      (undo : Trailed f' t' k → n ≤ k → Undone f' t' n b.falses × (b.literals ≡ t') × (b.length ≡ n)) where
+    cut : Moved (Both S (c ++ d)) f t n f' t' k → Tried t n b.falses b.literals b.length
+    cut m = let u = undo m.ready.trailed m.up in
+        record { ready = ready_back m.ready u; same = u.2; kept = λ j h. ap (λ (x : List ℕ). get_or x j 0) u.1 ∙ m.kept j h }
 
-    pub tried_clash : Follows S c t n → Moved (Both S (c ++ d)) f t n f' t' k × Clash (Both S (c ++ d)) t n
-        → Tried t n b.falses b.literals b.length × (true ≡ rup_of S (c ++ d))
+    -- the trail is cut back, and the answer is whether there was a conflict
+    pub tried : (r : Outcome) → Refuted S (c ++ d) f t n f' t' k r → Follows S c t n
+        → Tried t n b.falses b.literals b.length × (sameb the_type r outcome.Conflict ≡ rup_of S (c ++ d))
     unfolding Follows
-    tried_clash h v =
-        (tried v.0, sym (rup_true S (c ++ d) (λ Q g e. v.1 Q (g, e) (h Q g (denies_part Q c d e)))))
-
-    pub tried_good : Moved (Both S (c ++ d)) f t n f' t' k × Good S (truth f') × Denies (truth f') (c ++ d)
-        → Tried t n b.falses b.literals b.length × (false ≡ rup_of S (c ++ d))
-    tried_good v = (tried v.0, sym (rup_false S (c ++ d) (truth f') v.1 v.2))
+    tried outcome.Conflict v h =
+        let w = refuted_clash _ refl v in
+        (cut w.0, sym (rup_true S (c ++ d) (λ Q g e. w.1 Q (g, e) (h Q g (denies_part Q c d e)))))
+    tried outcome.Stable v h = let w = refuted_good _ refl v in (cut w.0, sym (rup_false S (c ++ d) (truth f') w.1 w.2))
 
 tried_trans : {t₀ : List ℕ} {n₀ : ℕ} {f t : List ℕ} {n : ℕ} {f' t' : List ℕ} {n' : ℕ} → Tried t₀ n₀ f t n → Tried t n f' t' n' → Tried t₀ n₀ f' t' n'
 tried_trans a b = record { ready = b.ready; same = b.same ∙ a.same; kept = λ k h. b.kept k (omega (arith, a.same)) ∙ a.kept k h }

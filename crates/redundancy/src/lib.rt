@@ -69,10 +69,7 @@ fn candidate(standing: Standing, propagation: &mut Propagation, joined: Joined) 
     let from = propagation.trail.length;
     let outcome = refute(standing, propagation, joined);
     propagation.trail.undo(from);
-    match outcome {
-        Outcome::Conflict => true,
-        Outcome::Stable => false,
-    }
+    outcome == Outcome::Conflict
 }
 
 // Every standing clause that holds the negation of l is a candidate.
