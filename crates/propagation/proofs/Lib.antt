@@ -3,3 +3,4 @@ pub mod MoveLaws
 pub mod AnswerLaws
 pub mod ClauseLaws
 pub mod HeldLaws
+pub mod LookLaws

@@ -1,10 +1,10 @@
--- Laws of a clause that is being read, and of a trail that grows by what follows. Assumes nothing.
-use mathlib.Core.Path.{◌≡◌, refl, sym, ◌∙◌, ap, subst}
+-- Laws of a trail that grows by what follows. Assumes nothing.
+use mathlib.Core.Path.{◌≡◌, refl, sym, ◌∙◌, ap}
 use mathlib.Core.Logic.{◌⊎◌, inl, inr}
 use mathlib.Core.Bool.{Bool, true, false}
 use mathlib.Core.List.Memᴰ
-use mathlib.Core.List.{List, [], ◌∷◌, ◌++◌, append_assoc, append-nil}
-use Prim.Native.Nat.{ℕ, zero, suc, ◌+◌, ◌≤◌, ◌<◌}
+use mathlib.Core.List.{List, [], ◌∷◌, ◌++◌}
+use Prim.Native.Nat.{ℕ, ◌+◌, ◌≤◌, ◌<◌}
 use native.Mathlib.Omega.{arith}
 use lib.Dec.{eqb}
 use lib.ListN.{get_or, set}
@@ -13,131 +13,13 @@ use borrow.Author.Tests.{eqb-true, eqb-false}
 use Rattle.rules.specs.Codes.{flip}
 use Rattle.rules.proofs.CodesLaw.{flip_twice}
 use Rattle.rules.proofs.Kit.{clear, either}
-use Rattle.propagation.specs.declared.looks.Look.{Look}
 use Rattle.propagation.specs.declared.looks.Look.TheVariants.{Falsified, Unit as UnitOf, Open}
 use Rattle.trail.specs.Trail.{off, truth, Ready, Assumed}
 use Rattle.trail.proofs.TrailLaws.{truth_flip, flip_other, trailed_assume, trail_old, assumed_kept, assumed_more, assumed_fewer}
-use Rattle.propagation.specs.Answers.{In, Under, Closed, Good, Means, Saw, Sought, look_of, Holds, Moved, Clash, Held}
-
-pub in_snoc : (m l : ℕ) (c : List ℕ) → In m (c ++ l ∷ []) → (m ≡ l) ⊎ In m c
-in_snoc m l c x = either inr (λ y. inl (Memᴰ.eq_of_singleton y)) (Memᴰ.append_cases c x)
+use Rattle.propagation.specs.Answers.{In, Under, Closed, Good, Means, Saw, Holds, Moved, Clash, Held}
 
 pub in_last : (l : ℕ) (c : List ℕ) → In l (c ++ l ∷ [])
 in_last l c = Memᴰ.append_right c (Memᴰ.head refl)
-
--- WHAT A LOOK SAYS of one literal more
-module _ (P : ℕ → Bool) (c : List ℕ) (l : ℕ) where
-  wider : (m : ℕ) → In m c → In m (c ++ l ∷ [])
-  wider m x = Memᴰ.append_left (l ∷ []) x
-
-  means_false : P (flip l) ≡ true → (r : Look) → Means P (λ m. In m c) r → Means P (λ m. In m (c ++ l ∷ [])) r
-  means_false e Falsified h = λ m x. either (λ q. ap (λ k. P (flip k)) q ∙ e) (h m) (in_snoc m l c x)
-  means_false e (UnitOf k) h =
-      (wider k h.0, h.1, λ m x. either (λ q. inl (ap (λ k. P (flip k)) q ∙ e)) (h.2 m) (in_snoc m l c x))
-  means_false e (Open a b) h = (wider a h.0, wider b h.1, h.2, h.3, h.4)
-
-  means_first : P (flip l) ≡ false → Means P (λ m. In m c) Falsified → Means P (λ m. In m (c ++ l ∷ [])) (UnitOf l)
-  means_first e h = (in_last l c, e, λ m x. either inr (λ y. inl (h m y)) (in_snoc m l c x))
-
-  means_again : (k : ℕ) → l ≡ k → Means P (λ m. In m c) (UnitOf k) → Means P (λ m. In m (c ++ l ∷ [])) (UnitOf k)
-  means_again k e h = (wider k h.0, h.1, λ m x. either (λ q. inr (q ∙ e)) (h.2 m) (in_snoc m l c x))
-
-  means_two : (k : ℕ) → P (flip l) ≡ false → (l ≡ k → ⊥) → Means P (λ m. In m c) (UnitOf k) → Means P (λ m. In m (c ++ l ∷ [])) (Open k l)
-  means_two k e n h = (wider k h.0, in_last l c, (λ q. n (sym q)), h.1, e)
-
-pub look_none : (one : ℕ) → one ≡ 0 → look_of one ≡ Falsified
-unfolding look_of
-look_none zero e = refl
-look_none (suc k) e = absurd (omega arith)
-
-pub look_some : (one : ℕ) → (one ≡ 0 → ⊥) → look_of one ≡ UnitOf one
-unfolding look_of
-look_some zero n = absurd (n refl)
-look_some (suc k) n = refl
-
--- READING A CLAUSE c, of which `rest` is left; `one` is the literal that is not false so far, or 0
-pub record Looking (f c rest : List ℕ) (one : ℕ) : Type 0 where
-  pub done : List ℕ
-  pub split : c ≡ done ++ rest
-  pub means : Means (truth f) (λ m. In m done) (look_of one)
-
-pub looking_start : (f c : List ℕ) → Looking f c c 0
-looking_start f c = record {
-  done = [];
-  split = refl;
-  means = subst (Means (truth f) (λ m. In m [])) (sym (look_none 0 refl)) (λ m x. absurd (Memᴰ.not-nil x));
-}
-
--- from the whole clause on
-pub looking_at : (f c : List ℕ) {rest : List ℕ} → rest ≡ c → Looking f c rest 0
-looking_at f c e = subst (λ (x : List ℕ). Looking f c x 0) (sym e) (looking_start f c)
-
-sought : (f c : List ℕ) (r : Look) → Saw f c r → Sought f c r
-sought f c Falsified h = h
-sought f c (UnitOf l) h = h
-sought f c (Open a b) h = h.0
-
-module _ (f c rest : List ℕ) (one : ℕ) (k : Looking f c rest one) where
-  pub looking_end : rest ≡ [] → Saw f c (look_of one)
-  looking_end e =
-      subst (λ (x : List ℕ). Saw f x (look_of one)) (sym (k.split ∙ ap (λ (x : List ℕ). k.done ++ x) e ∙ append-nil k.done))
-      k.means
-
-  pub seeking_end : rest ≡ [] → Sought f c (look_of one)
-  seeking_end e = sought f c (look_of one) (looking_end e)
-
-  module _ (l : ℕ) (rest' : List ℕ) (e : rest ≡ l ∷ rest') where
-    abbrev done' : List ℕ
-    done' = k.done ++ l ∷ []
-
-    step : c ≡ done' ++ rest'
-    step = k.split ∙ ap (λ (x : List ℕ). k.done ++ x) e ∙ sym (append_assoc k.done (l ∷ []) rest')
-
-    pub looking_in : In l c
-    looking_in = subst (In l) (sym step) (Memᴰ.append_left rest' (in_last l k.done))
-
-    pub looking_false : off f l ≡ true → Looking f c rest' one
-    looking_false o = record {
-      done = done';
-      split = step;
-      means = means_false (truth f) k.done l (truth_flip f l ∙ o) (look_of one) k.means;
-    }
-
-    module _ (o : off f l ≡ false) (n : l ≡ 0 → ⊥) where
-      pub looking_first : one ≡ 0 → Looking f c rest' l
-      looking_first z = record {
-        done = done';
-        split = step;
-        means = subst (Means (truth f) (λ m. In m done')) (sym (look_some l n))
-            (means_first (truth f) k.done l (truth_flip f l ∙ o)
-            (subst (Means (truth f) (λ m. In m k.done)) (look_none one z) k.means));
-      }
-
-      unit_now : (one ≡ 0 → ⊥) → Means (truth f) (λ m. In m k.done) (UnitOf one)
-      unit_now z = subst (Means (truth f) (λ m. In m k.done)) (look_some one z) k.means
-
-      pub looking_again : l ≡ one → Looking f c rest' one
-      looking_again q = record {
-        done = done';
-        split = step;
-        means = let z : one ≡ 0 → ⊥ = (λ y. n (q ∙ y)) in
-            subst (Means (truth f) (λ m. In m done')) (sym (look_some one z))
-            (means_again (truth f) k.done l one q (unit_now z));
-      }
-
-      pub looking_more : (one ≡ 0 → ⊥) → (l ≡ one → ⊥) → Saw f c (Open one l)
-      looking_more z q = up (means_two (truth f) k.done l one (truth_flip f l ∙ o) q (unit_now z))
-        where
-          inside : (m : ℕ) → In m done' → In m c
-          inside m x = subst (In m) (sym step) (Memᴰ.append_left rest' x)
-
-          up : Means (truth f) (λ m. In m done') (Open one l) → Saw f c (Open one l)
-          up h = (inside one h.0, inside l h.1, h.2, h.3, h.4)
-
-      -- the expected literal o, once or again
-      pub seeking_one : (one ≡ 0) ⊎ (one ≡ l) → Looking f c rest' l
-      seeking_one (inl z) = looking_first z
-      seeking_one (inr z) = subst (Looking f c rest') z (looking_again (sym z))
 
 -- what the trail holds is true in Q, so what is true here is true in Q
 pub holds_under : (f t : List ℕ) (n : ℕ) → Ready f t n → (Q : ℕ → Bool) → Holds Q t n → Under (truth f) Q

@@ -1,5 +1,5 @@
 -- What the contracts of propagation say. A literal is its code. Assumes nothing.
-use Rattle.std.specs.Prelude.{◌≡◌, ◌⊎◌, Bool, true, false, ℕ, zero, suc, ◌≤◌, ◌<◌, get_or, Option, Some, None}
+use Rattle.std.specs.Prelude.{◌≡◌, ◌⊎◌, Bool, true, false, ℕ, ◌≤◌, ◌<◌, get_or, Option, Some, None}
 use mathlib.Core.List.{List, Memᴰ}
 use Rattle.rules.specs.Codes.{flip}
 use Rattle.trail.specs.declared.Trail.{Trail}
@@ -39,11 +39,6 @@ Means P M (Open a b) = M a × M b × (a ≡ b → ⊥) × (P (flip a) ≡ false)
 
 abbrev pub Saw : List ℕ → List ℕ → Look → Type 0
 Saw f c r = Means (truth f) (λ m. In m c) r
-
--- the one literal that is not false so far, or 0
-unfoldable pub look_of : ℕ → Look
-look_of zero = Falsified
-look_of (suc k) = UnitOf (suc k)
 
 -- a look that stops at the first literal that is not false and not expected
 abbrev pub Sought : List ℕ → List ℕ → Look → Type 0

@@ -1,7 +1,6 @@
 // Reading a clause under the values.
-ghost use Rattle.std.specs.Prelude.{◌≡◌};
 ghost use Rattle.cells.specs.Codes.{codes_left};
-ghost use Rattle.propagation.specs.Answers.{look_of, Saw, Sought};
+ghost use Rattle.propagation.specs.Answers.{Saw, Sought};
 
 use cells::Codes;
 use trail::Trail;
@@ -14,47 +13,33 @@ pub enum Look {
     Open(u32, u32),
 }
 
-fn looked(one: u32) -> Look
-    ensures { result ≡ look_of one }
-{
-    if one == 0 {
-        Look::Falsified
-    } else {
-        Look::Unit(one)
-    }
-}
-
 // A clause up to the second distinct literal that is not false.
-pub fn read_clause(clause: Codes, trail: &Trail) -> Look
+pub fn read_clause(mut clause: Codes, trail: &Trail) -> Look
     ensures { Saw trail.now.falses (codes_left clause.entry) result }
 {
-    let mut one: u32 = 0;
-    for l in clause {
-        if !trail.is_off(l) {
-            if one == 0 {
-                one = l;
-            } else if l != one {
-                return Look::Open(one, l);
-            }
-        }
+    let Some(one) = clause.find(|l| !trail.is_off(*l)) else {
+        return Look::Falsified;
+    };
+    match clause.find(|l| !trail.is_off(*l) && *l != one) {
+        None => Look::Unit(one),
+        Some(l) => Look::Open(one, l),
     }
-    looked(one)
 }
 
 // The same, up to the first literal that is not false and not o.
-pub fn seek(clause: Codes, trail: &Trail, o: u32) -> Look
+pub fn seek(mut clause: Codes, trail: &Trail, o: u32) -> Look
     ensures { Sought trail.now.falses (codes_left clause.entry) result }
 {
-    let mut one: u32 = 0;
-    for l in clause {
-        if !trail.is_off(l) {
-            if l != o {
-                return Look::Open(l, l);
-            }
-            one = l;
-        }
+    let Some(one) = clause.find(|l| !trail.is_off(*l)) else {
+        return Look::Falsified;
+    };
+    if one != o {
+        return Look::Open(one, one);
     }
-    looked(one)
+    match clause.find(|l| !trail.is_off(*l) && *l != one) {
+        None => Look::Unit(one),
+        Some(l) => Look::Open(l, l),
+    }
 }
 
 // A literal of a clause other than a.

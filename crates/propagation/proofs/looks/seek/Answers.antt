@@ -1,25 +1,20 @@
-use mathlib.Core.Path.{◌∙◌, sym, ap}
-use native.Mathlib.Omega.{arith}
-use mathlib.Core.Logic.{inl, inr}
-use Rattle.cells.specs.Codes.{codes_left}
-use Rattle.cells.proofs.Laws.{first_code}
-use Rattle.rules.proofs.Kit.{either}
-use Rattle.propagation.proofs.MoveLaws.{looking_at, looking_false, seeking_one, looking_in}
+use Rattle.std.proofs.Common.{rules, tests}
+use Rattle.propagation.proofs.LookLaws.{on, other, find_none, find_some, saw_none, saw_one, in_rest}
 use Rattle.propagation.proofs.looks.seek.Goals as goal
 
-pub loop-l-init : goal.loop-l-init
-loop-l-init c = (looking_at _ _ (ap codes_left c.into_iter-l-iterator.ensures.into_iter_gives), inl (omega arith))
+pub returns-in_default : goal.returns-in_default
+returns-in_default c = let f = c.args.trail.now.falses in saw_none f (find_none _ (on f) (λ x b q k. search (rules, tests)) c.args.clause c.find.new.self c.in_default.ensures.ran)
 
-pub returns-then-l-o : goal.returns-then-l-o
-returns-then-l-o c = looking_in _ _ _ _ c.loop-l.invariant.0 _ _ c.in-Some.ensures.steps
+pub returns-then-one-o : goal.returns-then-one-o
+returns-then-one-o c = let f = c.args.trail.now.falses in
+    (find_some _ (on f) (λ x b q k. search (rules, tests)) c.args.clause c.find.new.self c.in-Some.ensures.ran).here
 
-pub loop-l-preserved-then-not-is_off : goal.loop-l-preserved-then-not-is_off
-loop-l-preserved-then-not-is_off c = let s = first_code _ _ _ _ c.in-Some.ensures.steps in (
-  seeking_one _ _ _ _ c.loop-l.invariant.0 _ _ c.in-Some.ensures.steps (sym (c.if-not-is_off.ensures s.2)) (λ z. omega arith)
-      (either inl (λ e. inr (e ∙ sym c.if-l-o.false)) c.loop-l.invariant.1),
-  inr c.if-l-o.false,
-)
+pub returns-in-None : goal.returns-in-None
+returns-in-None c = let f = c.args.trail.now.falses in
+    saw_one f (find_some _ (on f) (λ x b q k. search (rules, tests)) c.args.clause c.find.new.self c.in-Some.ensures.ran)
+    (find_none _ (other f c.in-Some.one) (λ x b q k. search (rules, tests)) c.find.new.self c.find-2.new.self c.in-None.ensures.ran)
 
-pub loop-l-preserved : goal.loop-l-preserved
-loop-l-preserved c = let s = first_code _ _ _ _ c.in-Some.ensures.steps in
-    (looking_false _ _ _ _ c.loop-l.invariant.0 _ _ c.in-Some.ensures.steps (sym (c.if-not-is_off.ensures s.2)), c.loop-l.invariant.1)
+pub returns-in-Some-find : goal.returns-in-Some-find
+returns-in-Some-find c = let f = c.args.trail.now.falses in
+    in_rest f (find_some _ (on f) (λ x b q k. search (rules, tests)) c.args.clause c.find.new.self c.in-Some.ensures.ran)
+    (find_some _ (other f c.in-Some.one) (λ x b q k. search (rules, tests)) c.find.new.self c.find-2.new.self c.in-Some-find.ensures.ran)
