@@ -12,6 +12,8 @@ use Rattle.propagation.specs.declared.looks.Look.TheVariants as look
 use Rattle.propagation.specs.declared.Propagation.{Propagation}
 use Rattle.propagation.specs.declared.Scan.{Scan}
 use Rattle.propagation.specs.declared.Scan.TheVariants as scan
+use denote.Enum.Bare.{sameb}
+use Rattle.rules.specs.contracts.Outcome.{the_type}
 use Rattle.rules.specs.declared.Outcome.{Outcome}
 use Rattle.rules.specs.declared.Outcome.TheVariants as outcome
 use Rattle.std.specs.Prelude.{Option, Some, None}
@@ -69,6 +71,10 @@ turned_some w m = m
 
 pub moved_as : {G : (ℕ → Bool) → Type 0} {a : Trail} {b c : Propagation} → c ≡ b → MovedIn G a b.trail → MovedIn G a c.trail
 moved_as {G} {a} e m = subst (λ (x : Propagation). MovedIn G a x.trail) (sym e) m
+
+pub told_stable : (r : Outcome) {b : Bool} → b ≡ sameb the_type r outcome.Conflict → b ≡ false → r ≡ outcome.Stable
+told_stable outcome.Conflict e n = absurd (clear e n)
+told_stable outcome.Stable e n = refl
 
 pub visited_on : {S : List (List ℕ)} {f₀ t₀ : List ℕ} {n₀ : ℕ} {f t : List ℕ} {n : ℕ} (f' t' : List ℕ) (n' : ℕ) → Moved (Good S) f₀ t₀ n₀ f t n
     → (r : Outcome) → Visited S f t n f' t' n' r → Visited S f₀ t₀ n₀ f' t' n' r

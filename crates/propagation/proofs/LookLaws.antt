@@ -45,10 +45,12 @@ module _ {F : Type 0} {g : Mut F (Bor ℕ × Unit {0}) Bool} (f : F) (test : ℕ
   passed [] j h = (sym h, λ m s i. absurd (Memᴰ.not-nil i))
   passed (x ∷ xs) j h =
       let k = tells x false h.0 h.1 in
-      let r = passed xs j (subst (λ p. FoldsTo (λ p x q. CalledAt g p x false q) p xs j) k.0 h.2) in
-      (r.0, λ m s i. either
-          (λ y. let e = Memᴰ.eq_of_singleton y in ap test e ∙ sym (k.1 (subst (λ n. n < 65536) e s))) (r.1 m s)
-          (Memᴰ.append_cases (x ∷ []) i))
+      let r = passed xs j (subst (λ p. FoldsTo (λ p x q. CalledAt g p x false q) p xs j) k.0 h.2) in (
+        r.0,
+        λ m s i. either
+            (λ y. let e = Memᴰ.eq_of_singleton y in ap test e ∙ sym (k.1 (subst (λ n. n < 65536) e s))) (r.1 m s)
+            (Memᴰ.append_cases (x ∷ []) i),
+      )
 
   module _ (s u : Codes) where
     small : (m : ℕ) → In m (codes_left s) → m < 65536
@@ -58,9 +60,11 @@ module _ {F : Type 0} {g : Mut F (Bor ℕ × Unit {0}) Bool} (f : F) (test : ℕ
     split xs t y e = given s xs t y ∙ ap (λ (z : List ℕ). xs ++ z) e
 
     pub find_none : FindsItem (YieldsFirst codes_left) g s f None u → Passed test (codes_left s)
-    find_none d = record { none = λ m x.
-        either ((passed d.0 d.1 d.3).1 m (small m x)) (λ y. absurd (Memᴰ.not-nil y))
-        (Memᴰ.append_cases d.0 (subst (In m) (split d.0 d.2.0 d.2.1 d.2.2.0) x)) }
+    find_none d = record {
+      none = λ m x.
+          either ((passed d.0 d.1 d.3).1 m (small m x)) (λ y. absurd (Memᴰ.not-nil y))
+          (Memᴰ.append_cases d.0 (subst (In m) (split d.0 d.2.0 d.2.1 d.2.2.0) x));
+    }
 
     pub find_some : {l : ℕ} → FindsItem (YieldsFirst codes_left) g s f (Some l) u → Found test (codes_left s) l (codes_left u)
     find_some {l} d =

@@ -10,22 +10,29 @@ use clauses::Standing;
 use looks::{Look, another, read_clause, seek};
 use rules::Outcome;
 use trail::Trail;
-use watching::seems_true;
+use watching::{DELETED, DELETED_TOO, SHORT, seems_true};
 
 mod looks;
 mod watching;
+
+// The codes of literals are below this, and the places of the clauses that can be watched, of two nodes each.
+pub const CODES: usize = 65536;
+
+pub const CLAUSES: usize = 131072;
+
+pub const NODES: usize = 2 * CLAUSES;
 
 // Watched literals: for each literal the first node that watches it, for each node the next of its list, and for each clause the exclusive or of
 // the two literals that it watches.
 #[derive(Drop)]
 pub struct Watches {
-    pub first: [u32; 65536],
-    pub next: [u32; 262144],
-    pub pair: [u32; 131072],
+    pub first: [u32; CODES],
+    pub next: [u32; NODES],
+    pub pair: [u32; CLAUSES],
 }
 
 // Ends each list of watches; at the start all of them are empty.
-pub const END: u32 = 4294967295;
+pub const END: u32 = u32::MAX;
 
 // What propagation works on: which literals are false, and the watches.
 #[derive(Drop)]
@@ -47,20 +54,17 @@ fn judge(standing: Standing, trail: &mut Trail, k: usize, o: u32) -> Option<u32>
     ensures { ReadyIn trail.old → (k < standing.entry.count)
         → TurnedIn (standing_of standing.entry) trail.old trail.new result }
 {
-    if standing.stands(k) {
-        return match seek(standing.clause(k), trail, o) {
-            Look::Falsified => None,
-            Look::Unit(u) => {
-                trail.make_true(u);
-                Some(u)
-            }
-            Look::Open(a, _) => Some(a),
-        };
+    if !standing.stands(k) {
+        return Some(if o == DELETED { DELETED_TOO } else { DELETED });
     }
-    if o == 1 {
-        return Some(65535);
+    match seek(standing.clause(k), trail, o) {
+        Look::Falsified => None,
+        Look::Unit(u) => {
+            trail.make_true(u);
+            Some(u)
+        }
+        Look::Open(a, _) => Some(a),
     }
-    Some(1)
 }
 
 // What a look at every standing clause finds.
@@ -71,11 +75,8 @@ fn scan_all(standing: Standing, trail: &Trail) -> Scan
         if standing.stands(place) {
             match read_clause(standing.clause(place), trail) {
                 Look::Falsified => return Scan::Falsified,
-                Look::Unit(u) => {
-                    if !trail.is_true(u) {
-                        return Scan::Unit(u);
-                    }
-                }
+                Look::Unit(u) if !trail.is_true(u) => return Scan::Unit(u),
+                Look::Unit(_) => {}
                 Look::Open(_, _) => {}
             }
         }
@@ -91,7 +92,7 @@ impl Propagation {
     {
         let mut before: u32 = END;
         let mut p = self.watches.first(l);
-        for _ in 0..262144u32 {
+        for _ in 0..NODES {
             let k = (p / 2) as usize;
             if standing.count <= k {
                 return Outcome::Stable;
@@ -115,7 +116,7 @@ impl Propagation {
     fn follow(&mut self, standing: Standing, q: usize) -> Outcome
         ensures { ReadyIn self.old.trail → VisitedIn (standing_of standing.entry) self.old.trail self.new.trail result }
     {
-        for i in q..65536 {
+        for i in q..CODES {
             if self.trail.length <= i {
                 return Outcome::Stable;
             }
@@ -132,7 +133,7 @@ impl Propagation {
         ensures { ReadyIn self.old.trail → SettledIn (standing_of standing.entry) self.old.trail self.new.trail result }
     {
         let mut followed = q;
-        for _ in 0..65536u32 {
+        for _ in 0..CODES {
             let Outcome::Stable = self.follow(standing, followed) else {
                 return Outcome::Conflict;
             };
@@ -150,13 +151,10 @@ impl Propagation {
     pub fn ground(&mut self, standing: Standing, q: usize) -> Outcome
         ensures { ReadyIn self.old.trail → VisitedIn (standing_of standing.entry) self.old.trail self.new.trail result }
     {
-        if q != 0 {
-            return self.follow(standing, q);
-        }
-        let Outcome::Stable = self.walk(standing, 0) else {
+        if q == 0 && self.walk(standing, SHORT) == Outcome::Conflict {
             return Outcome::Conflict;
-        };
-        self.follow(standing, 0)
+        }
+        self.follow(standing, q)
     }
 
     // The clause at place k is watched from now on; a literal that it makes true goes on the trail. None: a conflict.
@@ -168,7 +166,7 @@ impl Propagation {
         match read_clause(clause, &self.trail) {
             Look::Open(a, b) => {
                 self.watches.watch(k, a, Some(b));
-                Some(1)
+                Some(a)
             }
             Look::Unit(a) => {
                 self.watches.watch(k, a, another(clause, a));

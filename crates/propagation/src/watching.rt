@@ -5,31 +5,45 @@
 // other from it.
 ghost use Rattle.std.specs.Prelude.{◌<◌};
 
-use crate::{END, Watches};
+use crate::{CLAUSES, CODES, END, NODES, Watches};
 use trail::Trail;
+
+// Lists of no literal: of the clauses with no two literals, and of the nodes of deleted clauses, two since a clause watches two.
+pub const SHORT: u32 = 0;
+
+pub const DELETED: u32 = 1;
+
+pub const DELETED_TOO: u32 = 65535;
+
+// Where the first node that watches l stands.
+fn first_of(l: u32) -> usize
+    ensures { result < 65536 }
+{
+    l as usize % CODES
+}
 
 // Where the node after p stands.
 fn next_of(p: u32) -> usize
     ensures { result < 262144 }
 {
-    (p % 262144) as usize
+    p as usize % NODES
 }
 
 // Where the two literals of p's clause stand.
 fn pair_of(p: u32) -> usize
     ensures { result < 131072 }
 {
-    (p / 2 % 131072) as usize
+    (p / 2) as usize % CLAUSES
 }
 
 // Whether the negation of o is false, so that nothing need be looked for in a clause that has o.
 pub fn seems_true(trail: &Trail, o: u32) -> bool {
-    trail.falses[((o ^ 1) % 65536) as usize] != 0
+    trail.falses[(o ^ 1) as usize % CODES] != 0
 }
 
 impl Watches {
     pub fn first(&self, l: u32) -> u32 {
-        self.first[(l % 65536) as usize]
+        self.first[first_of(l)]
     }
 
     pub fn following(&self, p: u32) -> u32 {
@@ -40,12 +54,12 @@ impl Watches {
     pub fn partner(&self, p: u32, l: u32) -> u32
         ensures { result < 65536 }
     {
-        (self.pair[pair_of(p)] ^ l) % 65536
+        (self.pair[pair_of(p)] ^ l) % CODES as u32
     }
 
     // Node p is the first that watches l.
     fn link(&mut self, p: u32, l: u32) {
-        let list = (l % 65536) as usize;
+        let list = first_of(l);
         self.next[next_of(p)] = self.first[list];
         self.first[list] = p;
     }
@@ -65,7 +79,7 @@ impl Watches {
             return p;
         }
         if before == END {
-            self.first[(l % 65536) as usize] = after;
+            self.first[first_of(l)] = after;
         } else {
             self.next[next_of(before)] = after;
         }
@@ -76,13 +90,13 @@ impl Watches {
 
     // The clause at place k watches a and b; one with no two literals is in the list of short ones. A clause beyond the last node is not linked.
     pub fn watch(&mut self, k: usize, a: u32, b: Option<u32>) {
-        if 131072 <= k {
+        if CLAUSES <= k {
             return;
         }
         let p = (2 * k) as u32;
         let Some(b) = b else {
             self.pair[pair_of(p)] = a;
-            self.link(p, 0);
+            self.link(p, SHORT);
             return;
         };
         self.pair[pair_of(p)] = a ^ b;

@@ -8,8 +8,8 @@ use Rattle.propagation.proofs.scan_all.Goals.{then-stands+in-Unit+else-not-is_tr
 pub returns-in-Falsified : goal.returns-in-Falsified
 returns-in-Falsified c = scan_falsified _ _ _ _ (omega arith) c.stands.ensures c.if-stands.true _ c.clause.ensures _ c.read_clause.ensures c.in-Falsified.is
 
-pub returns-then-not-is_true : goal.returns-then-not-is_true
-returns-then-not-is_true c = scan_unit _ _ _ _ (omega arith) c.stands.ensures c.if-stands.true _ c.clause.ensures _ c.read_clause.ensures c.in-Unit.is c.is_true.ensures c.if-not-is_true.true
+pub returns-in-Unit : goal.returns-in-Unit
+returns-in-Unit c = scan_unit _ _ _ _ (omega arith) c.stands.ensures c.if-stands.true _ c.clause.ensures _ c.read_clause.ensures c.in-Unit.is c.is_true.ensures c.if-not-is_true.true
 
 pub loop-place-preserved : goal.loop-place-preserved
 loop-place-preserved c = elim c.if-stands.branch [
