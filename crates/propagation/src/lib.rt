@@ -15,11 +15,13 @@ use watching::{DELETED, DELETED_TOO, SHORT, seems_true};
 mod looks;
 mod watching;
 
-// The codes of literals are below this, and the places of the clauses that can be watched, of two nodes each.
+// The codes of literals are below this.
 pub const CODES: usize = 65536;
 
+// The places of the clauses that are watched are below this.
 pub const CLAUSES: usize = 131072;
 
+// Two nodes for each clause.
 pub const NODES: usize = 2 * CLAUSES;
 
 // Watched literals: for each literal the first node that watches it, for each node the next of its list, and for each clause the exclusive or of
@@ -173,9 +175,9 @@ impl Propagation {
                 judge(standing, &mut self.trail, k, a)
             }
             Look::Falsified => {
-                let a = another(clause, 0).unwrap_or(0);
+                let a = another(clause, SHORT).unwrap_or(SHORT);
                 self.watches.watch(k, a, another(clause, a));
-                judge(standing, &mut self.trail, k, 0)
+                judge(standing, &mut self.trail, k, SHORT)
             }
         }
     }

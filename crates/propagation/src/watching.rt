@@ -1,16 +1,16 @@
 // Watched literals: where to look for units next. They are hints, and nothing is proved of what these lists hold.
 // Nodes 2k and 2k + 1 are the two watches of the clause at place k; a number above every node, END, ends a list. `first` has for each literal
-// the first node that watches it (0: the clauses with no two literals; 1 and 65535: nodes of deleted clauses), `next` for each node the next
-// of its list, `pair` for each clause the exclusive or of the two literals that it watches: who comes along the list of one of them has the
-// other from it.
+// the first node that watches it, `next` for each node the next of its list, `pair` for each clause the exclusive or of the two literals that
+// it watches: who comes along the list of one of them has the other from it.
 ghost use Rattle.std.specs.Prelude.{◌<◌};
 
 use crate::{CLAUSES, CODES, END, NODES, Watches};
 use trail::Trail;
 
-// Lists of no literal: of the clauses with no two literals, and of the nodes of deleted clauses, two since a clause watches two.
+// No literal's code: the list of the clauses with no two literals.
 pub const SHORT: u32 = 0;
 
+// No literals' codes: the two that a deleted clause watches.
 pub const DELETED: u32 = 1;
 
 pub const DELETED_TOO: u32 = 65535;

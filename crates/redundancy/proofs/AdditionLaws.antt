@@ -29,7 +29,7 @@ use Rattle.trail.proofs.TrailLaws.{ready_back}
 use Rattle.clauses.proofs.StandingLaws.{standing_in_lem, standing_out}
 use Rattle.propagation.proofs.AnswerLaws.{visited_clash, visited_moved}
 use Rattle.propagation.proofs.HeldLaws.{held_moved, held_kept}
-use Rattle.redundancy.proofs.DenyLaws.{denies_part, less_nil, refuted_clash, refuted_good}
+use Rattle.redundancy.proofs.DenyLaws.{denies_part, refuted_clash, refuted_good}
 use Rattle.clauses.proofs.MemberLaws.{in_map, map_in, holds_lit}
 use Rattle.redundancy.proofs.BridgeLaws.{map_append, less_lits, rup_true, rup_false}
 
@@ -156,13 +156,14 @@ pub rat_first : (S : List (List ℕ)) (c : List ℕ) (l : ℕ) → Some l ≡ fi
 rat_first S [] l e = absurd (none-some l (sym e))
 rat_first S (m ∷ c) l e = subst (λ x. rat_on S (m ∷ c) x ≡ rat_of S (m ∷ c)) (sym (same_Some l m e)) (unfold rat_on rat_of rat in refl)
 
--- THE WHOLE LINE: the clause alone is the clause joined with nothing
-alone : (c d : List ℕ) → d ≡ [] → c ++ less_code 0 d ≡ c
-alone c d e = ap (λ (x : List ℕ). c ++ x) (ap (less_code 0) e ∙ less_nil 0) ∙ append-nil c
+-- THE WHOLE LINE: how refuting its clause ended, from a comparison
+pub told_stable : (r : Outcome) {b : Bool} → b ≡ sameb the_type r outcome.Stable → b ≡ true → r ≡ outcome.Stable
+told_stable outcome.Conflict e y = absurd (clear y e)
+told_stable outcome.Stable e y = refl
 
-refuted_as : (S : List (List ℕ)) (c c' f₀ t₀ : List ℕ) (n₀ : ℕ) (f t : List ℕ) (n : ℕ) (r : Outcome) → c ≡ c' → Refuted S c f₀ t₀ n₀ f t n r
-    → Refuted S c' f₀ t₀ n₀ f t n r
-refuted_as S c c' f₀ t₀ n₀ f t n r e v = subst (λ (x : List ℕ). Refuted S x f₀ t₀ n₀ f t n r) e v
+pub told_conflict : (r : Outcome) {b : Bool} → b ≡ sameb the_type r outcome.Stable → b ≡ false → r ≡ outcome.Conflict
+told_conflict outcome.Conflict e n = refl
+told_conflict outcome.Stable e n = absurd (clear e n)
 
 -- cut back, what is held stays
 held_back : {S : List (List ℕ)} {f₀ t₀ : List ℕ} {n₀ : ℕ} {f t : List ℕ} {k : ℕ} {b : Trail} → Held S f₀ t₀ n₀ → Ready f t k
@@ -210,13 +211,14 @@ module _ (S : List (List ℕ)) (c : List ℕ) {f₀ t₀ : List ℕ} {n₀ : ℕ
   pub added_closed : (q : ℕ) → v ≡ outcome.Conflict → Visited S f₀ t₀ n₀ f₁ t₁ b v → Decided S c f₁ t₁ b (Some q)
   added_closed q e m = decided_closed S c h q (visited_clash e m)
 
-  module _ (e : v ≡ outcome.Stable) (m : Visited S f₀ t₀ n₀ f₁ t₁ b v) (d : List ℕ) (ed : d ≡ []) (f₂ t₂ : List ℕ) (k : ℕ) (p : Outcome)
-      (r : Refuted S (c ++ less_code 0 d) f₁ t₁ b f₂ t₂ k p) where
+  module _ (e : v ≡ outcome.Stable) (m : Visited S f₀ t₀ n₀ f₁ t₁ b v) (f₂ t₂ : List ℕ) (k : ℕ) (p : Outcome)
+      (r : Refuted S (c ++ []) f₁ t₁ b f₂ t₂ k p) where
     followed : Held S f₁ t₁ b
     followed = held_moved h (visited_moved e m)
 
+    -- the clause alone is the clause joined with nothing
     denied : Refuted S c f₁ t₁ b f₂ t₂ k p
-    denied = refuted_as S (c ++ less_code 0 d) c f₁ t₁ b f₂ t₂ k p (alone c d ed) r
+    denied = subst (λ (x : List ℕ). Refuted S x f₁ t₁ b f₂ t₂ k p) (append-nil c) r
 
     pub added_rup : (q : ℕ) {a : Trail} → p ≡ outcome.Conflict → Undone f₂ t₂ b a.falses × (a.literals ≡ t₂) × (a.length ≡ b) → DecidedIn S c a (Some q)
     added_rup q z u = decided_rup S c followed q u (refuted_clash c z denied)

@@ -1,61 +1,44 @@
 -- Laws of a clause whose literals are made false. Assumes nothing.
 use mathlib.Core.Path.{◌≡◌, refl, sym, ◌∙◌, ap, subst}
-use mathlib.Core.Bool.{Bool, true, false, not}
+use mathlib.Core.Bool.{Bool, true, false, true≢false, not}
 use mathlib.Core.List.Memᴰ
 use mathlib.Core.List.{List, [], ◌∷◌, ◌++◌, append_assoc, append-nil}
 use Prim.Native.Nat.{ℕ, ◌<◌}
-use borrow.Author.Tests.{eq-eqb, ne_eqb}
-use Rattle.cells.specs.declared.Codes.{Codes}
-use Rattle.cells.specs.Codes.{codes_left, codes_table, codes_place}
-use Rattle.clauses.proofs.LiteralLaws.{literal_some}
+use lib.Dec.{eqb}
+use Rattle.std.specs.Prelude.{Option, Some, None}
+use Rattle.std.specs.Option.{option_eq}
 use Rattle.rules.specs.Codes.{flip}
 use Rattle.rules.proofs.Kit.{either}
 use Rattle.rules.specs.declared.Outcome.{Outcome}
 use Rattle.rules.specs.declared.Outcome.TheVariants.{Conflict, Stable}
 use Rattle.trail.specs.Trail.{off, truth, Assumed, Ready}
-use Rattle.propagation.specs.Answers.{In, Good, Denies, Moved, Clash, Settled}
-use Rattle.redundancy.specs.Additions.{less_code, Denied, Both, Refuted}
+use Rattle.propagation.specs.Answers.{Good, Denies, Moved, Clash, Settled}
+use Rattle.redundancy.specs.Additions.{less_code, less_of, Denied, Both, Refuted}
 use Rattle.trail.proofs.TrailLaws.{truth_flip, assumed_off}
 use Rattle.propagation.proofs.MoveLaws.{in_last, holds_under, moved_refl, moved_trans, moved_weaken, moved_assume}
 use Rattle.propagation.proofs.AnswerLaws.{settled_clash, settled_good}
 
--- A CLAUSE LESS A LITERAL
-module _ (x l : ℕ) (c : List ℕ) where
-  chosen : Bool → List ℕ
-  chosen b = elim (not b) as (λ _. List ℕ) [ true ↦ l ∷ less_code x c | false ↦ less_code x c ]
-
-  pub less_kept : (l ≡ x → ⊥) → less_code x (l ∷ c) ≡ l ∷ less_code x c
-  unfolding less_code chosen
-  less_kept n = ap chosen (ne_eqb l x n)
-
-  pub less_gone : l ≡ x → less_code x (l ∷ c) ≡ less_code x c
-  unfolding less_code chosen
-  less_gone e = ap chosen (eq-eqb l x e)
-
-pub less_nil : (x : ℕ) → less_code x [] ≡ []
+-- A CLAUSE LESS A LITERAL, where it is read
+less_step : (x l : ℕ) (c : List ℕ) (b : Bool) → not (eqb l x) ≡ b
+    → less_code x (l ∷ c) ≡ elim b as (λ _. List ℕ) [ true ↦ l ∷ less_code x c | false ↦ less_code x c ]
 unfolding less_code
-less_nil x = refl
+less_step x l c b e = ap (λ t. elim t as (λ _. List ℕ) [ true ↦ l ∷ less_code x c | false ↦ less_code x c ]) e
 
--- no literal has the code 0
-less_none : (c : List ℕ) → ((m : ℕ) → In m c → m ≡ 0 → ⊥) → less_code 0 c ≡ c
-less_none [] h = less_nil 0
-less_none (l ∷ c) h =
-    less_kept 0 l c (h l (Memᴰ.head refl)) ∙ ap (λ (z : List ℕ). l ∷ z) (less_none c (λ m x. h m (Memᴰ.tail x)))
+pub less_end : (o : Option ℕ) (rest : List ℕ) → rest ≡ [] → less_of o rest ≡ []
+unfolding less_code
+less_end None rest e = e
+less_end (Some x) rest e = ap (less_code x) e
 
-pub less_all : (c : Codes) → less_code 0 (codes_left c) ≡ codes_left c
-less_all c = less_none (codes_left c) (literal_some (codes_table c) (codes_place c))
+module _ (l : ℕ) {b : Bool} where
+  pub less_lit : (o : Option ℕ) (rest rest' : List ℕ) → rest ≡ l ∷ rest' → b ≡ not (option_eq eqb (Some l) o) → b ≡ true
+      → less_of o rest ≡ l ∷ less_of o rest'
+  less_lit None rest rest' e q y = e
+  less_lit (Some x) rest rest' e q y = ap (less_code x) e ∙ less_step x l rest' true (sym q ∙ y)
 
--- where a clause is read
-module _ (x : ℕ) (rest : List ℕ) where
-  pub less_end : rest ≡ [] → less_code x rest ≡ []
-  less_end e = ap (less_code x) e ∙ less_nil x
-
-  module _ (l : ℕ) (rest' : List ℕ) (e : rest ≡ l ∷ rest') where
-    pub less_lit : (l ≡ x → ⊥) → less_code x rest ≡ l ∷ less_code x rest'
-    less_lit n = ap (less_code x) e ∙ less_kept x l rest' n
-
-    pub less_skip : l ≡ x → less_code x rest ≡ less_code x rest'
-    less_skip q = ap (less_code x) e ∙ less_gone x l rest' q
+  pub less_skip : (o : Option ℕ) (rest rest' : List ℕ) → rest ≡ l ∷ rest' → b ≡ not (option_eq eqb (Some l) o) → b ≡ false
+      → less_of o rest ≡ less_of o rest'
+  less_skip None rest rest' e q n = absurd (true≢false (sym q ∙ n))
+  less_skip (Some x) rest rest' e q n = ap (less_code x) e ∙ less_step x l rest' false (sym q ∙ n)
 
 -- DENYING: c is what was denied and the rest
 pub denies_part : (Q : ℕ → Bool) (c d : List ℕ) → Denies Q (c ++ d) → Denies Q c
@@ -174,9 +157,11 @@ pub denied_go : (c : List ℕ) {f₀ t₀ : List ℕ} {n₀ : ℕ} {f t : List �
     → Moved (λ Q. Denies Q c) f₀ t₀ n₀ f t k × Denies (truth f) c
 denied_go c {f₀} {t₀} {n₀} {f} {t} {r} {k} e v = unfold Denied in subst (Denied c f₀ t₀ n₀ f t k) e v
 
--- the same clause by another name
-pub denied_as : (c c' f₀ t₀ : List ℕ) (n₀ : ℕ) (f t : List ℕ) (n : ℕ) (r : Outcome) → c ≡ c' → Denied c f₀ t₀ n₀ f t n r → Denied c' f₀ t₀ n₀ f t n r
-denied_as c c' f₀ t₀ n₀ f t n r e v = subst (λ (x : List ℕ). Denied x f₀ t₀ n₀ f t n r) e v
+-- the same clause and answer by other names
+pub denied_as : (c c' f₀ t₀ : List ℕ) (n₀ : ℕ) (f t : List ℕ) (n : ℕ) (r r' : Outcome) → c ≡ c' → r ≡ r'
+    → Denied c f₀ t₀ n₀ f t n r → Denied c' f₀ t₀ n₀ f t n r'
+denied_as c c' f₀ t₀ n₀ f t n r r' e q v =
+    subst (λ (x : List ℕ). Denied x f₀ t₀ n₀ f t n r') e (subst (Denied c f₀ t₀ n₀ f t n) q v)
 
 -- AND THEN PROPAGATION
 module _ (S : List (List ℕ)) (c f₀ t₀ : List ℕ) (n₀ : ℕ) where

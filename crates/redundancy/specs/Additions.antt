@@ -39,6 +39,11 @@ first_of (l ∷ c) = Some l
 unfoldable pub less_code : ℕ → List ℕ → List ℕ
 less_code x d = keep (λ m. not (eqb m x)) d
 
+-- a clause less a literal if there is one
+abbrev pub less_of : Option ℕ → List ℕ → List ℕ
+less_of None d = d
+less_of (Some x) d = less_code x d
+
 -- THE LITERALS OF A CLAUSE ARE FALSE NOW; or no consistent test that holds the trail has their negations
 unfoldable pub Denied : List ℕ → List ℕ → List ℕ → ℕ → List ℕ → List ℕ → ℕ → Outcome → Type 0
 Denied c f₀ t₀ n₀ f t n outcome.Conflict =
@@ -70,12 +75,16 @@ unfoldable pub Decided : List (List ℕ) → List ℕ → List ℕ → List ℕ 
 Decided S c f t n (Some q) = Held S f t n × (accepts S c ≡ true)
 Decided S c f t n None = accepts S c ≡ false
 
--- AS CONTRACTS NAME THEM: clause d less a literal, clause c joined with it, and what becomes of the values and the trail
-abbrev pub less_in : Codes → ℕ → List ℕ
-less_in d x = less_code x (codes_left d)
+-- AS CONTRACTS NAME THEM: clause d less a literal if there is one, clause c joined with what there is, and what becomes of the values and the trail
+abbrev pub less_in : Codes → Option ℕ → List ℕ
+less_in d o = less_of o (codes_left d)
+
+abbrev pub rest_of : Option (Codes × ℕ) → List ℕ
+rest_of None = []
+rest_of (Some p) = less_code p.1 (codes_left p.0)
 
 abbrev pub joined_in : Joined → List ℕ
-joined_in j = codes_left j.c ++ less_in j.d j.skip
+joined_in j = codes_left j.c ++ rest_of j.less
 
 abbrev pub DeniedIn : List ℕ → Trail → Trail → Outcome → Type 0
 DeniedIn c a b r = Denied c a.falses a.literals a.length b.falses b.literals b.length r

@@ -6,28 +6,28 @@ ghost use Rattle.cells.specs.Codes.{codes_left};
 ghost use Rattle.clauses.specs.Standing.{standing_of};
 ghost use Rattle.trail.specs.Trail.{ReadyIn};
 ghost use Rattle.propagation.specs.Answers.{HeldIn};
-ghost use Rattle.redundancy.specs.Additions.{rup_of, rat_on, rat_of, first_of, less_in, joined_in, DeniedIn, RefutedIn, FollowsIn, TriedIn, DecidedIn};
+ghost use Rattle.redundancy.specs.Additions.{rup_of, rat_on, rat_of, first_of, less_in, joined_in};
+ghost use Rattle.redundancy.specs.Additions.{DeniedIn, RefutedIn, FollowsIn, TriedIn, DecidedIn};
 
 use cells::Codes;
-use clauses::{Standing, holds, none};
+use clauses::{Standing, holds};
 use propagation::Propagation;
 use rules::Outcome;
 use trail::{Trail, flip};
 
-// Clause c joined with clause d less the literal skip.
+// Clause c, joined with a clause less a literal if there is one.
 #[derive(Clone, Copy)]
 struct Joined<'a> {
     c: Codes<'a>,
-    d: Codes<'a>,
-    skip: u32,
+    less: Option<(Codes<'a>, u32)>,
 }
 
 // Makes the literals of a clause but skip false, until one of them is true.
-fn deny(clause: Codes, skip: u32, trail: &mut Trail) -> Outcome
+fn deny(clause: Codes, skip: Option<u32>, trail: &mut Trail) -> Outcome
     ensures { ReadyIn trail.old → DeniedIn (less_in clause.entry skip) trail.old trail.new result }
 {
     for l in clause {
-        if l != skip {
+        if Some(l) != skip {
             if trail.is_true(l) {
                 return Outcome::Conflict;
             }
@@ -41,10 +41,13 @@ fn deny(clause: Codes, skip: u32, trail: &mut Trail) -> Outcome
 fn deny_both(joined: Joined, trail: &mut Trail) -> Outcome
     ensures { ReadyIn trail.old → DeniedIn (joined_in joined.entry) trail.old trail.new result }
 {
-    let Outcome::Stable = deny(joined.c, 0, trail) else {
+    let Outcome::Stable = deny(joined.c, None, trail) else {
         return Outcome::Conflict;
     };
-    deny(joined.d, joined.skip, trail)
+    match joined.less {
+        None => Outcome::Stable,
+        Some((d, skip)) => deny(d, Some(skip), trail),
+    }
 }
 
 // Propagation from the negations of a joined clause.
@@ -83,10 +86,9 @@ fn each(standing: Standing, propagation: &mut Propagation, c: Codes, l: u32) -> 
     for k in 0..standing.count {
         if standing.stands(k) {
             let d = standing.clause(k);
-            if holds(d, skip) {
-                if !candidate(standing, propagation, Joined { c, d, skip }) {
-                    return false;
-                }
+            let less = Some((d, skip));
+            if holds(d, skip) && !candidate(standing, propagation, Joined { c, less }) {
+                return false;
             }
         }
     }
@@ -122,15 +124,11 @@ pub fn add(standing: Standing, propagation: &mut Propagation, q: usize, c: Codes
         return Some(q);
     };
     let base = propagation.trail.length;
-    let joined = Joined {
-        c,
-        d: none(standing.proof),
-        skip: 0,
-    };
-    if let Outcome::Stable = refute(standing, propagation, joined) {
-        if !is_rat(standing, propagation, c) {
-            return None;
-        }
+    let joined = Joined { c, less: None };
+    if refute(standing, propagation, joined) == Outcome::Stable
+        && !is_rat(standing, propagation, c)
+    {
+        return None;
     }
     propagation.trail.undo(base);
     Some(base)

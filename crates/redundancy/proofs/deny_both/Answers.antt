@@ -1,11 +1,19 @@
-use Rattle.redundancy.proofs.DenyLaws.{less_all, denied_as, denied_go, joined, joined_stop}
+use mathlib.Core.Path.{refl, ap, sym, ◌∙◌}
+use mathlib.Core.List.{◌++◌, append-nil}
+use Rattle.cells.specs.Codes.{codes_left}
+use Rattle.redundancy.specs.Additions.{rest_of}
+use Rattle.redundancy.proofs.DenyLaws.{denied_as, denied_go, joined, joined_stop}
 use Rattle.redundancy.proofs.deny_both.Goals as goal
 
 pub returns-in_default : goal.returns-in_default
-returns-in_default c = λ r. joined_stop _ _ _ _ _ _ _ _ c.in_default.is (denied_as _ _ _ _ _ _ _ _ _ (less_all c.args.joined.c) (c.deny.ensures r))
+returns-in_default c = λ r. joined_stop _ (rest_of c.args.joined.less) _ _ _ _ _ _ c.in_default.is (c.deny.ensures r)
 
-pub returns : goal.returns
-returns c = λ r.
-    let d = c.deny.ensures r in
-    joined _ _ _ _ _ _ _ _ (denied_go _ c.in-Stable.is (denied_as _ _ _ _ _ _ _ _ _ (less_all c.args.joined.c) d)) _ _ _ _
-    (c.deny-2.ensures (denied_go _ c.in-Stable.is d).0.ready)
+pub returns-in-None : goal.returns-in-None
+returns-in-None c = λ r. let j = c.args.joined in
+    denied_as _ _ _ _ _ _ _ _ _ _ (sym (ap (λ o. codes_left j.c ++ rest_of o) c.in-None.is ∙ append-nil _)) c.in-Stable.is (c.deny.ensures r)
+
+pub returns-in-Some : goal.returns-in-Some
+returns-in-Some c = λ r.
+    let d = denied_go _ c.in-Stable.is (c.deny.ensures r) in
+    denied_as _ _ _ _ _ _ _ _ _ _ (ap (λ o. codes_left c.args.joined.c ++ rest_of o) (sym c.in-Some.is)) refl
+    (joined _ _ _ _ _ _ _ _ d _ _ _ _ (c.deny-in-Some.ensures d.0.ready))

@@ -6,7 +6,7 @@ use lib.IntN.{ℤ}
 use Rattle.propagation.specs.declared.Propagation.{Propagation}
 use Rattle.redundancy.proofs.AdditionLaws.{Walking, walking_start, walking_end, walking_off, walking_out, walking_yes, walking_no, follows_kept}
 use Rattle.redundancy.proofs.each.Goals as goal
-use Rattle.redundancy.proofs.each.Goals.{then-stands+then-holds+else-not-candidate, then-stands+else-holds, else-stands}
+use Rattle.redundancy.proofs.each.Goals.{then-stands+else-holds, else-holds-via-then-holds+else-not-candidate, else-holds-via-else-holds, else-stands}
 
 -- the trail by another name
 at : {t ms : List ℤ} {count l : ℕ} {c t₀ : List ℕ} {n₀ k : ℕ} {a b : Propagation} → b ≡ a
@@ -26,11 +26,13 @@ returns-then-not-candidate c = λ r h.
 
 pub loop-k-preserved : goal.loop-k-preserved
 loop-k-preserved c = λ r h. let w = c.loop-k.invariant r h in elim c.if-stands.branch [
-  | then-stands+then-holds+else-not-candidate b ↦ at b.propagation-is
-      (walking_yes _ _ _ _ _ _ _ _ _ _ _ w (omega arith) (sym c.stands.ensures ∙ b.if-stands.true) _ _ b.clause-d.ensures c.flip-skip.ensures _ b.holds.ensures b.if-holds.true _ _ _ _
-      (b.candidate.ensures w.tried.ready (follows_kept _ _ w.tried h)) b.if-not-candidate.false)
-  | then-stands+else-holds b ↦ at b.propagation-is
-      (walking_out _ _ _ _ _ _ _ _ _ _ _ w (omega arith) (sym c.stands.ensures ∙ b.if-stands.true) _ _ b.clause-d.ensures c.flip-skip.ensures _ b.holds.ensures b.if-holds.false)
+  | then-stands+else-holds b ↦ at b.propagation-is (elim b.else-holds.branch [
+    | else-holds-via-then-holds+else-not-candidate d ↦ at d.propagation-is
+        (walking_yes _ _ _ _ _ _ _ _ _ _ _ w (omega arith) (sym c.stands.ensures ∙ b.if-stands.true) _ _ b.clause-d.ensures c.flip-skip.ensures _ b.holds.ensures d.if-holds.true _ _ _ _
+        (d.candidate.ensures w.tried.ready (follows_kept _ _ w.tried h)) d.if-not-candidate.false)
+    | else-holds-via-else-holds d ↦ at d.propagation-is
+        (walking_out _ _ _ _ _ _ _ _ _ _ _ w (omega arith) (sym c.stands.ensures ∙ b.if-stands.true) _ _ b.clause-d.ensures c.flip-skip.ensures _ b.holds.ensures d.if-holds.false)
+  ])
   | else-stands b ↦ at b.propagation-is (walking_off _ _ _ _ _ _ _ _ _ _ _ w (omega arith) (sym c.stands.ensures ∙ b.if-stands.false))
 ]
 
