@@ -75,7 +75,7 @@ unfoldable pub Decided : List (List ℕ) → List ℕ → List ℕ → List ℕ 
 Decided S c f t n (Some q) = Held S f t n × (accepts S c ≡ true)
 Decided S c f t n None = accepts S c ≡ false
 
--- AS CONTRACTS NAME THEM: clause d less a literal if there is one, clause c joined with what there is, and what becomes of the values and the trail
+-- AS CONTRACTS NAME THEM: clause d less a literal if there is one, clause c joined with what there is, and what becomes of the trail
 abbrev pub less_in : Codes → Option ℕ → List ℕ
 less_in d o = less_of o (codes_left d)
 
