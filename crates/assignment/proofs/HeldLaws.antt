@@ -1,20 +1,26 @@
 -- Laws of codes that are marked and listed, each once. Assumes nothing.
 use mathlib.Core.Path.{◌≡◌, refl, ap, ap₂, sym, subst, ◌∙◌}
 use mathlib.Core.Logic.{◌⊎◌, inl, inr}
-use mathlib.Core.Bool.{Bool, true, false, cond, ◌||◌, ◌&&◌}
+use mathlib.Core.Bool.{Bool, true, false, cond, ◌||◌, ◌&&◌, or_comm, and_comm}
 use mathlib.Core.List.Memᴰ
 use mathlib.Core.List.{List, [], ◌∷◌, ◌++◌}
 use Prim.Native.Nat.{ℕ, zero, suc, ◌+◌, ◌-◌, ◌<◌, ◌≤◌}
 use native.Mathlib.Omega.{arith}
-use lib.ListN.{length, get_or, set, length-set, replicate, get_or-eq_default}
+use native.Mathlib.Numerals.{add-one}
+use lib.ListN.{length, get_or, set, length-set, replicate, get_or-eq_default, take}
 use lib.Seq.{get_or-set_same, get_or-set_other, set_out}
 use lib.Dec.{eqb, ltb}
 use borrow.Author.Tests.{eq-eqb, ne_eqb, eqb-true, eqb-false, lt-ltb, le-ltb, ltb-true, ltb-false}
+use Rattle.std.specs.List.{list_all, list_any, filter}
+use Rattle.std.proofs.lemmas.List.Folds.{list_all_more, list_any_more}
+use Rattle.std.proofs.lemmas.List.Filters.{length-filter_more}
+use Rattle.lines.specs.Lists.{all, keep}
 use Rattle.rules.specs.Basics.{is_in, distinct}
 use Rattle.rules.proofs.Kit.{clear, and_l, and_r, either, In}
 use Rattle.rules.proofs.Distinct.{in_is_in, is_in_in, distinct_cons}
 use Rattle.copies.specs.Marks.{Unmarked}
-use Rattle.copies.proofs.MarkLaws.{get_or_zeros, zero_there}
+use Rattle.copies.proofs.Members.{any_listed}
+use Rattle.copies.proofs.MarkLaws.{get_or_zeros}
 use Rattle.assignment.specs.Held.{listed, is_new, adding, joined, zeros, Held, Holds, Noted}
 
 -- THE LIST IN AN ARRAY
@@ -29,14 +35,32 @@ listed_more h n v l =
     let e : n + 1 ≡ suc n = omega arith in
     ap (listed (set h n v)) e ∙ ap₂ (λ a b. a ∷ b) (get_or-set_same h n v 0 l) (listed_set h n n v (omega arith))
 
--- the walk from its end
-pub listed_none : (h : List ℕ) {i : ℕ} → i ≤ 0 → listed h i ≡ []
-unfolding listed
-listed_none h {i} l = let e : i ≡ 0 = omega arith in ap (listed h) e
+-- the same places in the order in which they were filled
+module _ (h : List ℕ) where
+  pub all_filled : (p : ℕ → Bool) (n : ℕ) → n ≤ length h → list_all p (take n h) ≡ all p (listed h n)
+  unfolding listed
+  all_filled p zero l = refl
+  all_filled p (suc n) l =
+      rw (← add-one) (list_all_more p h n 0 (omega arith) ∙ and_comm (list_all p (take n h)) (p (get_or h n 0))
+      ∙ ap (λ b. p (get_or h n 0) && b) (all_filled p n (omega arith)))
 
-pub listed_down : (h : List ℕ) {i : ℕ} → 0 < i → listed h i ≡ get_or h (i - 1) 0 ∷ listed h (i - 1)
-unfolding listed
-listed_down h {i} l = let e : i ≡ suc (i - 1) = omega arith in ap (listed h) e
+  pub count_filled : (p : ℕ → Bool) (n : ℕ) → n ≤ length h → length (filter p (take n h)) ≡ length (keep p (listed h n))
+  unfolding listed
+  count_filled p zero l = refl
+  count_filled p (suc n) l = rw (← add-one) (length-filter_more p h n 0 (omega arith) ∙ go (p (get_or h n 0)) (count_filled p n (omega arith)))
+    where
+      go : (b : Bool) → length (filter p (take n h)) ≡ length (keep p (listed h n))
+          → length (filter p (take n h)) + cond b 1 0 ≡ length {A = ℕ} (elim b as (λ _. List ℕ) [ true ↦ get_or h n 0 ∷ keep p (listed h n) | false ↦ keep p (listed h n) ])
+      go true e = omega arith
+      go false e = omega arith
+
+  pub in_filled : (n y : ℕ) → n ≤ length h → is_in (take n h) y ≡ is_in (listed h n) y
+  unfolding listed
+  in_filled zero y l = refl
+  in_filled (suc n) y l =
+      rw (← add-one) (sym (any_listed (eqb y) (take (n + 1) h)) ∙ list_any_more (eqb y) h n 0 (omega arith)
+      ∙ or_comm (list_any (eqb y) (take n h)) (eqb y (get_or h n 0))
+      ∙ ap (λ b. eqb y (get_or h n 0) || b) (any_listed (eqb y) (take n h) ∙ in_filled n y (omega arith)))
 
 pub listed_length : (h : List ℕ) (n : ℕ) → length (listed h n) ≡ n
 unfolding listed
@@ -66,14 +90,6 @@ module _ (s : List ℕ) (y : ℕ) where
   pub new_is : y < 8194 → y < length s → eqb (get_or s y 0) 0 ≡ is_new s y
   unfolding is_new
   new_is h k = sym (ap₂ (λ a b. a && (b && eqb (get_or s y 0) 0)) (lt-ltb y 8194 h) (lt-ltb y (length s) k))
-
-  pub new_out : y < 8194 → length s ≤ y → false ≡ is_new s y
-  unfolding is_new
-  new_out h k = sym (ap₂ (λ a b. a && (b && eqb (get_or s y 0) 0)) (lt-ltb y 8194 h) (le-ltb y (length s) k))
-
-  pub new_high : 8194 ≤ y → false ≡ is_new s y
-  unfolding is_new
-  new_high h = sym (ap (λ a. a && (ltb y (length s) && eqb (get_or s y 0) 0)) (le-ltb y 8194 h))
 
 module _ (s : List ℕ) (y : ℕ) (e : is_new s y ≡ true) where
   pub new_low : y < 8194
@@ -252,31 +268,16 @@ holds_none s h u l e = subst (λ k. Holds s h k []) (sym e) (record {
   codes = refl;
 })
 
--- TAKING BACK: only the first i places of h are marked in s
-pub record Left (s h : List ℕ) (i : ℕ) : Type 0 where
+-- TAKING BACK: only the codes ys are marked in s still
+pub record Left (s ys : List ℕ) : Type 0 where
   pub long : 8194 ≤ length s
-  pub none : (y : ℕ) → is_in (listed h i) y ≡ false → get_or s y 0 ≡ 0
+  pub none : (y : ℕ) → is_in ys y ≡ false → get_or s y 0 ≡ 0
 
-module _ (s h : List ℕ) (i : ℕ) (left : Left s h i) where
-  pub left_none : i ≤ 0 → Unmarked s
-  left_none l = record { long = left.long; none = λ y. left.none y (ap (λ (t : List ℕ). is_in t y) (listed_none h l)) }
-
-  module _ (l : 0 < i) {v : ℕ} (q : v ≡ get_or h (i - 1) 0) where
-    -- a code that is not among those that are left
-    gone : (y : ℕ) → (y ≡ v → ⊥) → is_in (listed h (i - 1)) y ≡ false → is_in (listed h i) y ≡ false
-    gone y d e =
-        ap (λ (t : List ℕ). is_in t y) (listed_down h l)
-        ∙ ap₂ (λ a b. a || b) (ne_eqb y (get_or h (i - 1) 0) (λ z. d (z ∙ sym q))) e
-
-    pub left_more : {u : List ℕ} → u ≡ set s v 0 → Left u h (i - 1)
-    left_more {u} k = record {
-      long = omega (arith, ap (length {A = ℕ}) k, length-set s v 0, left.long);
-      none = λ y e. ap (λ (t : List ℕ). get_or t y 0) k ∙ go y e (eqb y v) refl;
-    }
-      where
-        go : (y : ℕ) → is_in (listed h (i - 1)) y ≡ false → (b : Bool) → eqb y v ≡ b → get_or (set s v 0) y 0 ≡ 0
-        go y e true z = ap (λ j. get_or (set s v 0) j 0) (eqb-true y v z) ∙ zero_there s v
-        go y e false z = let d = eqb-false y v z in get_or-set_other s v y 0 0 d ∙ left.none y (gone y d e)
+pub left_all : (s h : List ℕ) (n : ℕ) → n ≤ length h → Held s h n → Left s (take n h)
+left_all s h n l held = record {
+  long = held.long;
+  none = λ y e. held.marked y ∙ ap (λ b. cond b 1 0) (sym (in_filled h n y l) ∙ e);
+}
 
 -- NOTES
 pub noted_none : (size : ℕ → ℕ) (n : ℕ) → Noted size (replicate n 0)

@@ -1,5 +1,5 @@
 // The least t: the negations of the clause's universal literals and the annotations of the line's copies, each literal once.
-ghost use Rattle.std.specs.Prelude.{◌≡◌, ◌<◌, ◌≤◌, get_or, length};
+ghost use Rattle.std.specs.Prelude.{◌≡◌, ◌<◌, ◌≤◌, length};
 ghost use Rattle.rules.specs.Codes.{flip};
 
 use cells::Codes;
@@ -16,22 +16,15 @@ pub struct Least<'a> {
 }
 
 // The code of the negation.
+#[tactic(auto, unfolding(rules::specs::Codes::flip))]
 fn negated(y: usize) -> usize
-    requires { y < 65536 }
     ensures { result ≡ flip y }
 {
-    (y + 1) - 2 * (y % 2)
-}
-
-// The code at a place of the list.
-fn code_at(held: &[u16], i: usize) -> usize
-    ensures { (result ≡ get_or held.now i 0) × (result < 65536) }
-{
-    held.get(i).copied().unwrap_or(0) as usize
+    y ^ 1
 }
 
 impl<'a> Least<'a> {
-    ghost use Rattle.std.specs.Prelude.{◌≡◌, [], ◌∷◌, ◌<◌, ◌≤◌, get_or};
+    ghost use Rattle.std.specs.Prelude.{◌≡◌, [], ◌∷◌, ◌<◌, ◌≤◌, take};
     ghost use Rattle.rules.specs.Basics.{is_in};
     ghost use Rattle.copies.specs.Copies.{words, annotation_in, list_in, line_in};
     ghost use Rattle.assignment.specs.Held.{is_new, adding, joined};
@@ -51,41 +44,37 @@ impl<'a> Least<'a> {
         }
     }
 
-    // The same of the list that is held.
-    fn code(&self, i: usize) -> usize
-        ensures { (result ≡ get_or self.now.held.now i 0) × (result < 65536) }
+    // The codes of its literals, in the order in which they were added.
+    fn codes(&self) -> &[u16]
+        ensures { result.now ≡ take self.now.count self.now.held.now }
     {
-        code_at(self.held, i)
+        &self.held[..self.count]
     }
 
     // Whether literal y can be added: it is a formula's, and has a place without a mark.
+    #[tactic(auto, unfolding(crate::specs::Held::is_new))]
     fn is_new(&self, y: usize) -> bool
         ensures { result ≡ is_new self.now.seen.now y }
     {
-        if y < CODES && y < self.seen.len() {
-            return self.seen[y] == 0;
-        }
-        false
+        y < CODES && self.seen.get(y) == Some(&0)
     }
 
     // Adds a literal, unless it is there.
+    #[tactic(auto, unfolding(crate::specs::Held::is_new))]
     fn add(&mut self, y: usize)
         ensures lent { SameArrays self.old self.new }
         ensures held { HeldIn self.old → HoldsIn self.new (adding (items_of self.old) y) }
     {
         let n = self.count;
-        if self.is_new(y) {
-            if n < CODES {
-                if n < self.held.len() {
-                    self.seen[y] = 1;
-                    self.held[n] = y as u16;
-                    self.count = n + 1;
-                }
-            }
+        if self.is_new(y) && n < CODES && n < self.held.len() {
+            self.seen[y] = 1;
+            self.held[n] = y as u16;
+            self.count = n + 1;
         }
     }
 
     // Adds the literals from place a of the map on.
+    #[tactic(auto, unfolding(crate::specs::Held::joined))]
     fn join(&mut self, map: &[i32], a: usize)
         ensures lent { SameArrays self.old self.new }
         ensures held { HeldIn self.old → HoldsIn self.new (joined (items_of self.old) (list_in map.now a)) }
@@ -96,7 +85,8 @@ impl<'a> Least<'a> {
     }
 
     // Adds the annotations of the line's copies. Copies of one mapping line, which often follow each other, share the place of theirs.
-    pub fn join_annotations(&mut self, view: View)
+    #[tactic(auto, using(crate::proofs::Arms::joins), unfolding(crate::specs::Held::joined, crate::specs::Annotations::annotations_of, copies::specs::Copies::annotation_of))]
+    pub(crate) fn join_annotations(&mut self, view: View)
         ensures lent { SameArrays self.old self.new }
         ensures held { HeldIn self.old
             → HoldsIn self.new (joined (items_of self.old) (annotations_of (annotation_in view.entry) (line_in view.entry))) }
@@ -112,8 +102,8 @@ impl<'a> Least<'a> {
     }
 
     // Adds the negation of y if it is universal.
+    #[tactic(auto, unfolding(crate::specs::Held::joined, crate::specs::Annotations::negations))]
     fn join_negation(&mut self, view: View, y: usize)
-        requires { y < 65536 }
         ensures lent { SameArrays self.old self.new }
         ensures held { HeldIn self.old → HoldsIn self.new (joined (items_of self.old) (negations (words view.entry) (y ∷ []))) }
     {
@@ -123,7 +113,8 @@ impl<'a> Least<'a> {
     }
 
     // Adds the negations of the clause's universal literals.
-    pub fn join_negations(&mut self, view: View, matrix: &[i32], c: usize)
+    #[tactic(auto, using(crate::proofs::Arms::joins), unfolding(crate::specs::Held::joined, crate::specs::Annotations::negations))]
+    pub(crate) fn join_negations(&mut self, view: View, matrix: &[i32], c: usize)
         ensures lent { SameArrays self.old self.new }
         ensures held { HeldIn self.old
             → HoldsIn self.new (joined (items_of self.old) (negations (words view.entry) (list_in matrix.now c))) }
@@ -141,40 +132,32 @@ impl<'a> Least<'a> {
     }
 
     // No literal is there together with its negation.
-    pub fn one_signed(&self) -> bool
+    pub(crate) fn one_signed(&self) -> bool
         ensures { HeldIn self.now → result ≡ apart (items_of self.now) }
     {
-        let held = &*self.held;
-        for i in (0..self.count).rev() {
-            if self.holds(negated(code_at(held, i))) {
-                return false;
-            }
-        }
-        true
+        self.codes()
+            .iter()
+            .all(|&y| !self.holds(negated(y as usize)))
     }
 
     // How many of the literals are of universals that e depends on.
-    pub fn part_size(&self, view: View, e: usize) -> usize
+    pub(crate) fn part_size(&self, view: View, e: usize) -> usize
         ensures { (result ≡ part_size (words view.entry) (items_of self.now) e) × (result ≤ 8194) }
     {
-        let mut k: usize = 0;
-        let held = &*self.held;
-        for i in (0..self.count).rev() {
-            if prefix::depends(view.prefix, e, code_at(held, i) / 2) {
-                k += 1;
-            }
-        }
-        k
+        self.codes()
+            .iter()
+            .filter(|&&y| prefix::depends(view.prefix, e, y as usize / 2))
+            .count()
     }
 
     // Takes all literals out, and their marks back.
-    pub fn take_back(&mut self)
+    pub(crate) fn take_back(&mut self)
         ensures lent { SameArrays self.old self.new }
         ensures empty { HeldIn self.old → IsEmpty self.new }
     {
-        for i in (0..self.count).rev() {
-            let y = self.code(i);
-            cells::set_at(self.seen, y, 0);
+        let seen = &mut *self.seen;
+        for &y in &self.held[..self.count] {
+            cells::set_at(seen, y as usize, 0);
         }
         self.count = 0;
     }

@@ -22,16 +22,15 @@ const LONG: usize = 64;
 
 // How many literals of t are of universals that e depends on. One more than that is noted for each existential that has a place in `sizes`;
 // 0 is noted where it was not counted yet.
+#[tactic(auto, using(crate::proofs::HeldLaws::noted_read, crate::proofs::HeldLaws::noted_more))]
 fn size_of(sizes: &mut [u16], view: View, least: &Least, e: usize) -> usize
     requires { Noted (part_size (words view) (items_of least.now)) sizes.old }
     ensures { (result ≡ part_size (words view.entry) (items_of least.now) e)
         × Noted (part_size (words view.entry) (items_of least.now)) sizes.new }
 {
-    if e < sizes.len() {
-        let noted = sizes[e] as usize;
-        if noted != 0 {
-            return noted - 1;
-        }
+    let noted = sizes.get(e).copied().unwrap_or(0) as usize;
+    if noted != 0 {
+        return noted - 1;
     }
     let size = least.part_size(view, e);
     cells::set_at(sizes, e, (size + 1) as u16);
@@ -39,18 +38,17 @@ fn size_of(sizes: &mut [u16], view: View, least: &Least, e: usize) -> usize
 }
 
 // Whether `long` literals within e's part of t are all of it.
+#[tactic(auto, using(crate::proofs::HeldLaws::listed_length), unfolding(crate::specs::Annotations::is_part))]
 fn is_part(sizes: &mut [u16], view: View, least: &Least, e: usize, long: usize) -> bool
     requires { Noted (part_size (words view) (items_of least.now)) sizes.old }
     ensures { (result ≡ is_part (words view.entry) (items_of least.now) e long)
         × Noted (part_size (words view.entry) (items_of least.now)) sizes.new }
 {
-    if long == least.count {
-        return true;
-    }
-    size_of(sizes, view, least, e) == long
+    long == least.count || size_of(sizes, view, least, e) == long
 }
 
 // How many literals there are from place a of the map on.
+#[tactic(auto, using(crate::proofs::Arms::codes_bound))]
 fn length_at(map: &[i32], a: usize) -> usize
     ensures { result ≡ length (list_in map.now a) }
 {
@@ -62,16 +60,15 @@ fn length_next(map: &[i32], last: usize, long: usize, a: usize) -> usize
     requires { long ≡ length (list_in map.now last) }
     ensures { result ≡ length (list_in map.now a) }
 {
-    if a == last {
-        return long;
-    }
-    length_at(map, a)
+    if a == last { long } else { length_at(map, a) }
 }
 
 // Each copy's annotation is as long as its part of t.
+#[tactic(auto, using(crate::proofs::Arms::long_past), unfolding(crate::specs::Annotations::copy_fits, copies::specs::Copies::annotation_of))]
 fn copies_fit(sizes: &mut [u16], view: View, least: &Least) -> bool
     requires { Noted (part_size (words view) (items_of least.now)) sizes.old }
-    ensures { result ≡ all (copy_fits (words view.entry) (stands_in view.entry) (annotation_in view.entry) (items_of least.now)) (line_in view.entry) }
+    ensures { result ≡ all (copy_fits (words view.entry) (stands_in view.entry)
+        (annotation_in view.entry) (items_of least.now)) (line_in view.entry) }
 {
     let mut last = view.map.len();
     let mut long: usize = 0;
@@ -92,19 +89,18 @@ fn fit_least(view: View, least: &Least) -> bool
     ensures { HeldIn least.now → result ≡ cond (apart (items_of least.now))
         (all (copy_fits (words view.entry) (stands_in view.entry) (annotation_in view.entry) (items_of least.now)) (line_in view.entry)) false }
 {
-    if least.one_signed() {
-        if view.size < LONG {
-            let mut none = [0u16; 1];
-            return copies_fit(&mut none, view, least);
-        }
-        let mut sizes = [0u16; VARIABLES];
-        return copies_fit(&mut sizes, view, least);
+    if !least.one_signed() {
+        return false;
     }
-    false
+    if view.size < LONG {
+        return copies_fit(&mut [], view, least);
+    }
+    copies_fit(&mut [0; VARIABLES], view, least)
 }
 
 // The line's copies are annotated by one assignment that makes the clause's universal literals false. Nothing is held in `least`, before and
 // after.
+#[tactic(auto, using(crate::proofs::Arms::joins, crate::proofs::HeldLaws::holds_none), unfolding(crate::specs::Annotations::annotations_fit, crate::specs::Annotations::least_of))]
 pub fn annotations_fit(view: View, matrix: &[i32], c: usize, least: &mut Least) -> bool
     ensures lent { SameArrays least.old least.new }
     ensures answer { IsEmpty least.old

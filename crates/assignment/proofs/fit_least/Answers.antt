@@ -2,7 +2,7 @@ use Rattle.assignment.proofs.HeldLaws.{noted_none}
 use Rattle.assignment.proofs.fit_least.Goals as goal
 
 pub copies_fit-requires : goal.copies_fit-requires
-copies_fit-requires c = noted_none _ 1
+copies_fit-requires c = noted_none _ 0
 
-pub copies_fit-requires-then-one_signed : goal.copies_fit-requires-then-one_signed
-copies_fit-requires-then-one_signed c = noted_none _ 4097
+pub copies_fit-requires-2 : goal.copies_fit-requires-2
+copies_fit-requires-2 c = noted_none _ 4097

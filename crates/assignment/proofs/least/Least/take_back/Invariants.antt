@@ -1,12 +1,7 @@
-use Rattle.std.proofs.Common.{◌≡◌}
-use Rattle.assignment.specs.Least.{HeldIn, SameArrays}
+use Rattle.assignment.specs.Least.{HeldIn}
 use Rattle.assignment.proofs.HeldLaws.{Left}
 use Rattle.assignment.proofs.least.Least.take_back.Given as goal
+use Rattle.std.proofs.Common.{drop}
 
-abbrev pub invariant-loop-i : goal.invariant-loop-i
-invariant-loop-i l = record {
-  lent : SameArrays l.initial.self l.self;
-  held : l.self.held.now ≡ l.initial.self.held.now;
-  count : l.self.count ≡ l.initial.self.count;
-  left : HeldIn l.initial.self → Left l.self.seen.now l.self.held.now l.i;
-}
+abbrev pub invariant-loop-y : goal.invariant-loop-y
+invariant-loop-y l = HeldIn l.fn.self → Left l.seen (drop l.y-index l.y-items)
