@@ -7,7 +7,11 @@ use Prim.Native.Nat.{ℕ, zero, suc, ◌<◌}
 use native.Mathlib.Omega.{arith}
 use lib.Dec.{eqb}
 use lib.IntN.{ℤ}
-use lib.ListN.{drop}
+use lib.ListN.{drop, length, get_or}
+use Rattle.std.specs.Bool.{MatchBool}
+use Rattle.std.specs.List.{list_all, AllWithin, HoldsAt}
+use Rattle.std.proofs.lemmas.List.Folds.{list_all_at}
+use Rattle.std.proofs.lemmas.List.Sums.{list_all-from_AllPass}
 use borrow.Author.Tests.{eqb-false}
 use Rattle.cells.specs.Cells.{codes_of, up_to, list_at}
 use Rattle.rules.proofs.Kit.{In, either}
@@ -44,6 +48,27 @@ literal_small t i m x = (list_small t i m x).0
 
 pub literal_some : (t : List ℤ) (i m : ℕ) → In m (list_at t i) → m ≡ 0 → ⊥
 literal_some t i m x = (list_small t i m x).1
+
+-- A TEST OF EVERY CODE, or of some, where it is known of codes alone
+get_in : (xs : List ℕ) (k d : ℕ) → k < length xs → In (get_or xs k d) xs
+get_in [] k d h = absurd (omega arith)
+get_in (x ∷ xs) zero d h = Memᴰ.head refl
+get_in (x ∷ xs) (suc k) d h = Memᴰ.tail (get_in xs k d (omega arith))
+
+module _ (p : ℕ → Bool) (t : List ℤ) (i : ℕ) where
+  abbrev pub Gives : Bool → ℕ → Type 0
+  Gives b x = x < 65536 → p x ≡ b
+
+  abbrev codes : List ℕ
+  codes = list_at t i
+
+  small_at : (k d : ℕ) → k < length codes → get_or codes k d < 65536
+  small_at k d h = literal_small t i (get_or codes k d) (get_in codes k d h)
+
+  pub all_codes : (r : Bool) → MatchBool r (AllWithin (Gives true) codes 0 (length codes)) ((k : ℕ) × (k < length codes) × HoldsAt (Gives false) codes k)
+      → r ≡ list_all p codes
+  all_codes true h = sym (list_all-from_AllPass p codes (λ k d l. h k d (omega arith) l (small_at k d l)))
+  all_codes false h = sym (list_all_at p codes h.0 0 h.1 (h.2 0 (small_at h.0 0 h.1)))
 
 pub pending_at : (t : List ℤ) (s : Store) → pending t s ≡ list_at t s.used
 unfolding pending

@@ -1,12 +1,12 @@
 -- Members of a clause, as codes and as literals of the rules. Assumes nothing.
 use mathlib.Core.Path.{◌≡◌, refl, ◌∙◌, ap, ap₂}
-use mathlib.Core.Bool.{Bool, ◌||◌}
+use mathlib.Core.Bool.{Bool, ◌&&◌, ◌||◌}
 use mathlib.Core.List.Memᴰ
 use mathlib.Core.List.{List, [], ◌∷◌, map}
 use Prim.Native.Nat.{ℕ}
-use Rattle.std.specs.List.{list_any}
+use Rattle.std.specs.List.{list_all, list_any}
 use lib.Dec.{eqb}
-use Rattle.lines.specs.Lists.{any}
+use Rattle.lines.specs.Lists.{all, any}
 use Rattle.rules.specs.Basics.{is_in}
 use Rattle.rules.specs.Literals.{same, holds}
 use Rattle.rules.specs.Codes.{lit_of}
@@ -24,6 +24,10 @@ module _ {A B : Type 0} (g : A → B) where
   map_in y (x ∷ xs) m = either {D = (z : A) × In z (x ∷ xs) × (y ≡ g z)} (λ e. (x, Memᴰ.head refl, e))
       (λ k. let s = map_in y xs k in (s.0, Memᴰ.tail s.1, s.2)) (Memᴰ.cases_cons m)
 
+  pub any_map : (p : B → Bool) (xs : List A) → any p (map g xs) ≡ any (λ x. p (g x)) xs
+  any_map p [] = refl
+  any_map p (x ∷ xs) = ap (λ b. p (g x) || b) (any_map p xs)
+
 -- TESTS
 pub same_lit : (m x : ℕ) → same (lit_of m) (lit_of x) ≡ eqb m x
 same_lit m x = same_code (lit_of m) (lit_of x) ∙ ap₂ eqb (code_lit m) (code_lit x)
@@ -32,7 +36,11 @@ pub holds_lit : (d : List ℕ) (x : ℕ) → holds (map lit_of d) (lit_of x) ≡
 holds_lit [] x = refl
 holds_lit (m ∷ d) x = ap₂ (λ a b. a || b) (same_lit x m) (holds_lit d x)
 
--- a test of some, as std has it
+-- a test of all, or of some, as std has it
+pub all_listed : {A : Type 0} (p : A → Bool) (xs : List A) → list_all p xs ≡ all p xs
+all_listed p [] = refl
+all_listed p (x ∷ xs) = ap (λ b. p x && b) (all_listed p xs)
+
 pub any_listed : {A : Type 0} (p : A → Bool) (xs : List A) → list_any p xs ≡ any p xs
 any_listed p [] = refl
 any_listed p (x ∷ xs) = ap (λ b. p x || b) (any_listed p xs)

@@ -133,10 +133,10 @@ standing_marks t ms ms' (suc n) h =
     (ap (λ (m : ℕ). cond (not (eqb (m % 2) 0)) (list_at t (m / 2) ∷ []) []) (h n (omega arith)))
 
 -- WITHOUT THE FIRST that passes
-module _ {A : Type 0} (p : A → Bool) where
-  abbrev chosen : A → List A → List A → Bool → List A
-  chosen x xs ys b = elim b as (λ _. List A) [ true ↦ xs | false ↦ x ∷ ys ]
+abbrev pub chosen : {A : Type 0} → A → List A → List A → Bool → List A
+chosen {A} x xs ys b = elim b as (λ _. List A) [ true ↦ xs | false ↦ x ∷ ys ]
 
+module _ {A : Type 0} (p : A → Bool) where
   without_last : (xs : List A) (y : A) → any p xs ≡ false → p y ≡ true → without_first p (xs ++ y ∷ []) ≡ xs
   without_last [] y h e = ap (chosen y [] []) e
   without_last (x ∷ xs) y h e =

@@ -32,6 +32,7 @@ pub struct Standing<'a> {
 
 impl Store {
     // An empty store above the first n places of the proof table.
+    #[tactic(auto, unfolding(crate::specs::Standing::empty_above))]
     pub fn above(n: usize) -> Store
         ensures { result ≡ empty_above n }
     {
@@ -39,6 +40,7 @@ impl Store {
     }
 
     // The clauses have the places below this.
+    #[tactic(auto, unfolding(crate::specs::Standing::places_of))]
     pub fn places(self) -> usize
         ensures { result ≡ places_of self }
     {
@@ -46,6 +48,7 @@ impl Store {
     }
 
     // The clauses as they stand in these tables.
+    #[tactic(auto, unfolding(crate::specs::Standing::places_of))]
     pub fn standing<'a>(self, proof: &'a [i32], marks: &'a [i32]) -> Standing<'a>
         ensures proof { result.proof.now ≡ proof.now }
         ensures marks { result.marks.now ≡ marks.now }
@@ -59,6 +62,7 @@ impl Store {
     }
 
     // Whether a clause of n literals more has its places in tables of these lengths.
+    #[tactic(auto, using(crate::proofs::StoreLaws::fits_short, crate::proofs::StoreLaws::fits_marks))]
     pub fn fits(self, n: usize, proof: usize, marks: usize) -> bool
         ensures { result ≡ room_for self n proof marks }
     {
@@ -66,6 +70,7 @@ impl Store {
     }
 
     // The literals of a line from place `at` of its text on become the pending clause, which is written where the proof table is free.
+    #[tactic(auto, unfolding(crate::specs::Standing::stored))]
     pub fn store_line(self, line: &[u8], at: usize, table: &mut [i32]) -> Result<(), Rule>
         ensures { (table.new ≡ stored line.now at self table.old)
             × (result ≡ ending_at line.now at) }
@@ -74,6 +79,7 @@ impl Store {
     }
 
     // The pending clause.
+    #[tactic(auto, unfolding(crate::specs::Standing::pending))]
     pub fn pending(self, table: &[i32]) -> Codes<'_>
         ensures { codes_left result ≡ pending table.now self }
     {
@@ -81,6 +87,7 @@ impl Store {
     }
 
     // Where the pending clause's codes stand in the proof table, one in a place, up to a 0.
+    #[tactic(auto, unfolding(crate::specs::Standing::written_at))]
     pub fn written(self) -> usize
         ensures { result ≡ written_at self }
     {
@@ -105,6 +112,7 @@ impl Store {
 
 impl<'a> Standing<'a> {
     // Whether a clause stands at place k.
+    #[tactic(auto, unfolding(crate::specs::Standing::stands))]
     pub fn stands(self, k: usize) -> bool
         ensures { result ≡ stands_at self.entry k }
     {
@@ -112,6 +120,7 @@ impl<'a> Standing<'a> {
     }
 
     // The clause at place k.
+    #[tactic(auto, unfolding(crate::specs::Standing::clause_at))]
     pub fn clause(self, k: usize) -> Codes<'a>
         ensures { codes_left result ≡ clause_of self.entry k }
     {
@@ -146,6 +155,7 @@ impl<'a> Standing<'a> {
 }
 
 // A clause without literals.
+#[tactic(auto, using(cells::proofs::Laws::list_past))]
 pub fn none(table: &[i32]) -> Codes<'_>
     ensures { codes_left result ≡ [] }
 {
@@ -160,6 +170,7 @@ pub fn holds(mut clause: Codes, l: u32) -> bool
 }
 
 // The clause at place k stands no more.
+#[tactic(auto, unfolding(crate::specs::Standing::removed))]
 pub fn remove(marks: &mut [i32], k: usize)
     ensures { marks.new ≡ removed k marks.old }
 {

@@ -1,7 +1,7 @@
 -- What the contracts of deletions say. Assumes nothing.
-use Rattle.std.specs.Prelude.{◌≡◌, Bool, true, false, ◌||◌, List, map, ℕ, ◌<◌, ◌≤◌, eqb, ℤ, get_or, take}
+use Rattle.std.specs.Prelude.{◌≡◌, Bool, true, false, ◌&&◌, ◌||◌, List, Option, MatchOption, map, ℕ, ◌<◌, ◌≤◌, eqb, ℤ, get_or, take}
 use Rattle.cells.specs.Cells.{Kept}
-use Rattle.lines.specs.Lists.{all, any}
+use Rattle.lines.specs.Lists.{any}
 use Rattle.rules.specs.Basics.{is_in, without_first}
 use Rattle.rules.specs.Literals.{same_set}
 use Rattle.rules.specs.Codes.{lit_of}
@@ -28,9 +28,17 @@ same_as c d = same_set (map lit_of c) (map lit_of d)
 unfoldable pub NoneBelow : (List ℕ → Bool) → List ℤ → List ℤ → ℕ → Type 0
 NoneBelow p t ms n = (k : ℕ) → k < n → stands t ms k ≡ true → p (clause_at t ms k) ≡ false
 
--- each clause that stands at a place from k on and below n has a literal that f does not mark
-unfoldable pub Unmarked : List ℕ → List ℤ → List ℤ → ℕ → ℕ → Type 0
-Unmarked f t ms k n = (j : ℕ) → k ≤ j → j < n → stands t ms j ≡ true → all (off f) (clause_at t ms j) ≡ false
+-- a clause of the same set as the codes c stands at place k
+abbrev pub there : List ℕ → List ℤ → List ℤ → ℕ → Bool
+there c t ms k = stands t ms k && same_as c (clause_at t ms k)
+
+-- none does at the places from k on and below n
+unfoldable pub NoneThere : List ℕ → List ℤ → List ℤ → ℕ → ℕ → Type 0
+NoneThere c t ms k n = (j : ℕ) → k ≤ j → j < n → there c t ms j ≡ false
+
+-- the earliest of these places at which one does, if there is one
+abbrev pub Earliest : List ℕ → List ℤ → List ℤ → ℕ → ℕ → Option ℕ → Type 0
+Earliest c t ms k n r = MatchOption r (NoneThere c t ms k n) (λ i. (i < n) × (there c t ms i ≡ true) × NoneThere c t ms k i)
 
 -- "`d` literals `0` removes one standing clause of the same set, the earliest; the others stay." c are the codes of the literals.
 pub record Deleted (c : List ℕ) (t ms ms' : List ℤ) (count : ℕ) (r : Bool) : Type 0 where
@@ -49,8 +57,11 @@ list_in a = take a.length a.literals
 abbrev pub NoneOf : Standing → ℕ → ℕ → Type 0
 NoneOf s k n = NoneIn s.proof.now s.marks.now k n
 
-abbrev pub UnmarkedIn : Trail → Standing → ℕ → ℕ → Type 0
-UnmarkedIn a s k n = Unmarked a.falses s.proof.now s.marks.now k n
+abbrev pub there_at : List ℕ → Standing → ℕ → Bool
+there_at c s k = there c s.proof.now s.marks.now k
+
+abbrev pub EarliestIn : List ℕ → Standing → ℕ → ℕ → Option ℕ → Type 0
+EarliestIn c s k n r = Earliest c s.proof.now s.marks.now k n r
 
 abbrev pub DeletedIn : List ℕ → List ℤ → List ℤ → List ℤ → ℕ → Bool → Type 0
 DeletedIn c t ms ms' count r = Deleted c t ms ms' count r

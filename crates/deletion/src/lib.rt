@@ -2,13 +2,12 @@
 // cuts the trail to 0 first, since what followed from the standing clauses may follow no more.
 #![tactic(auto)]
 
-ghost use Rattle.std.specs.Prelude.{◌≡◌, ◌+◌, ◌≤◌, ◌<◌, length, false, ◌&&◌};
+ghost use Rattle.std.specs.Prelude.{◌≡◌, ◌+◌, ◌≤◌, ◌<◌, false};
 ghost use Rattle.lines.specs.Lists.{all};
 ghost use Rattle.rules.specs.Basics.{is_in};
 ghost use Rattle.cells.specs.Codes.{codes_left};
-ghost use Rattle.clauses.specs.Standing.{stands_at, clause_of};
 ghost use Rattle.trail.specs.Trail.{off, ReadyIn};
-ghost use Rattle.deletion.specs.Deletions.{same_as, ListedIn, list_in, MoreBy, NoneOf, UnmarkedIn, DeletedIn};
+ghost use Rattle.deletion.specs.Deletions.{same_as, there_at, ListedIn, list_in, MoreBy, NoneOf, EarliestIn, DeletedIn};
 
 use cells::Codes;
 use clauses::{Standing, holds, remove};
@@ -22,40 +21,28 @@ pub fn list_literal(trail: &mut Trail, l: u32)
 }
 
 // Whether the trail marks every literal of a clause.
-fn all_marked(clause: Codes, trail: &Trail) -> bool
+fn all_marked(mut clause: Codes, trail: &Trail) -> bool
     ensures { result ≡ all (off trail.now.falses) (codes_left clause.entry) }
 {
-    for l in clause {
-        if !trail.is_off(l) {
-            return false;
-        }
-    }
-    true
+    clause.all(|l| trail.is_off(l))
 }
 
 // Whether a clause holds each literal on the trail.
 fn covers(clause: Codes, trail: &Trail) -> bool
-    ensures { trail.now.length ≤ 65536 → length trail.now.literals ≡ 65536
-        → result ≡ all (is_in (codes_left clause.entry)) (list_in trail.now) }
+    ensures { trail.now.length ≤ 65536 → result ≡ all (is_in (codes_left clause.entry)) (list_in trail.now) }
 {
-    for k in 0..trail.length {
-        if !holds(clause, trail.literal_at(k)) {
-            return false;
-        }
-    }
-    true
+    trail.as_slice().iter().all(|l| holds(clause, *l as u32))
 }
 
+// Whether a clause is of the same set.
 fn is_same(clause: Codes, trail: &Trail) -> bool
     ensures { ListedIn trail.now → result ≡ same_as (list_in trail.now) (codes_left clause.entry) }
 {
-    if all_marked(clause, trail) {
-        return covers(clause, trail);
-    }
-    false
+    all_marked(clause, trail) && covers(clause, trail)
 }
 
 // Whether a clause stands at one of the four places from k on; true where fewer are left. All four are tested, which is one step of the machine.
+#[tactic(auto, using(clauses::proofs::StandingLaws::none_four))]
 fn near(standing: Standing, k: usize) -> bool
     ensures { result ≡ false → NoneOf standing.entry k (k + 4) }
 {
@@ -69,82 +56,61 @@ fn near(standing: Standing, k: usize) -> bool
     low | standing.stands(k + 2) | standing.stands(k + 3)
 }
 
-// Passes over places from k on at which no clause stands, four at a time; where that ends.
-fn passed(standing: Standing, k: usize) -> usize
-    ensures { (k ≤ result) × NoneOf standing.entry k result }
-{
-    let n = standing.count;
-    let mut j = k;
-    while j < n {
-        if n < 4 {
-            return j;
-        }
-        if n - 4 < j {
-            return j;
-        }
-        if near(standing, j) {
-            return j;
-        }
-        j += 4;
-    }
-    j
-}
-
-// Passes over the places from k on at which no clause stands or one with a literal that the trail does not mark; where that ends.
-fn candidate(standing: Standing, k: usize, trail: &Trail) -> usize
-    ensures { (k ≤ result) × UnmarkedIn trail.now standing.entry k result }
-{
-    let mut place = k;
-    while place < standing.count {
-        if standing.stands(place) {
-            if all_marked(standing.clause(place), trail) {
-                return place;
-            }
-            place += 1;
-        } else {
-            place = passed(standing, place + 1);
-        }
-    }
-    place
-}
-
 // Whether a clause of the same set stands at place k.
 fn is_there(standing: Standing, k: usize, trail: &Trail) -> bool
-    ensures { ListedIn trail.now
-        → result ≡ (stands_at standing.entry k && same_as (list_in trail.now) (clause_of standing.entry k)) }
+    ensures { ListedIn trail.now → result ≡ there_at (list_in trail.now) standing.entry k }
 {
-    if standing.stands(k) {
-        return is_same(standing.clause(k), trail);
+    standing.stands(k) && is_same(standing.clause(k), trail)
+}
+
+// The earliest of the places from k on and below n at which a clause of the same set stands.
+fn earliest_in(standing: Standing, k: usize, n: usize, trail: &Trail) -> Option<usize>
+    ensures { ListedIn trail.now → EarliestIn (list_in trail.now) standing.entry k n result }
+{
+    (k..n).find(|j| is_there(standing, *j, trail))
+}
+
+// The same of the four places from k on, which are passed over at once where no clause stands.
+#[tactic(auto, using(crate::proofs::DeletionLaws::there_none))]
+fn earliest_of_four(standing: Standing, k: usize, trail: &Trail) -> Option<usize>
+    requires { k + 4 ≤ standing.count }
+    ensures { ListedIn trail.now → EarliestIn (list_in trail.now) standing.entry k (k + 4) result }
+{
+    if near(standing, k) {
+        return earliest_in(standing, k, k + 4, trail);
     }
-    false
+    None
+}
+
+// The same of all places.
+#[tactic(auto, using(crate::proofs::DeletionLaws::there_start, crate::proofs::DeletionLaws::there_more, crate::proofs::DeletionLaws::earliest_after))]
+fn earliest(standing: Standing, trail: &Trail) -> Option<usize>
+    ensures { ListedIn trail.now → EarliestIn (list_in trail.now) standing.entry 0 standing.entry.count result }
+{
+    let blocks = standing.count / 4;
+    for block in 0..blocks {
+        if let Some(place) = earliest_of_four(standing, 4 * block, trail) {
+            return Some(place);
+        }
+    }
+    earliest_in(standing, 4 * blocks, standing.count, trail)
 }
 
 // The earliest standing clause of the same set stands no more; whether there is one.
+#[tactic(auto, using(crate::proofs::DeletionLaws::none_deleted))]
 fn take_earliest(proof: &[i32], marks: &mut [i32], count: usize, trail: &Trail) -> bool
     ensures { ListedIn trail.now → DeletedIn (list_in trail.now) proof.now marks.old marks.new count result }
 {
-    let mut found = false;
     let standing = Standing {
         proof,
         marks,
         count,
     };
-    let mut place = candidate(standing, 0, trail);
-    while place < count {
-        let standing = Standing {
-            proof,
-            marks,
-            count,
-        };
-        if is_there(standing, place, trail) {
-            remove(marks, place);
-            found = true;
-            place = count;
-        } else {
-            place = candidate(standing, place + 1, trail);
-        }
-    }
-    found
+    let Some(place) = earliest(standing, trail) else {
+        return false;
+    };
+    remove(marks, place);
+    true
 }
 
 // The same, with an empty trail afterwards.

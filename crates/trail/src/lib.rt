@@ -1,7 +1,7 @@
 // Which literals are false, and since when. A literal is its code.
 #![tactic(auto)]
 
-ghost use Rattle.std.specs.Prelude.{◌≡◌, ◌≤◌, ◌<◌};
+ghost use Rattle.std.specs.Prelude.{◌≡◌, ◌≤◌, ◌<◌, take};
 ghost use Rattle.rules.specs.Codes.{flip as negation};
 ghost use Rattle.trail.specs.Trail.{off, truth, ShapeIn, TrailedIn, literal_in, AssumedIn, UndoneIn};
 
@@ -13,14 +13,8 @@ pub struct Trail {
     pub length: usize,
 }
 
-// A length of the trail.
-fn within(n: usize) -> usize
-    ensures { (result ≤ 65536) × (n ≤ 65536 → result ≡ n) }
-{
-    n.min(65536)
-}
-
 // The code of the negation.
+#[tactic(auto, unfolding(rules::specs::Codes::flip))]
 pub fn flip(l: u32) -> u32
     ensures { result ≡ negation l }
 {
@@ -35,6 +29,14 @@ impl Trail {
         self.literals[k % 65536] as u32
     }
 
+    // The literals on the trail.
+    pub fn as_slice(&self) -> &[u16]
+        ensures { (self.now.length ≤ 65536) → result.now ≡ take self.now.length self.now.literals }
+    {
+        &self.literals[..self.length.min(65536)]
+    }
+
+    #[tactic(auto, unfolding(crate::specs::Trail::off))]
     pub fn is_off(&self, l: u32) -> bool
         ensures { (l < 65536) → result ≡ off self.now.falses l }
     {
@@ -42,6 +44,7 @@ impl Trail {
     }
 
     // A literal is true where its negation is false.
+    #[tactic(auto, using(crate::proofs::TrailLaws::flip_small))]
     pub fn is_true(&self, l: u32) -> bool
         ensures { (l < 65536) → result ≡ truth self.now.falses l }
     {
@@ -53,18 +56,15 @@ impl Trail {
         ensures { ShapeIn self.old → (l < 65536) → AssumedIn self.old l self.new }
     {
         let i = (l % 65536) as usize;
-        if self.falses[i] != 0 {
-            return;
+        if self.falses[i] == 0 && self.length < 65536 {
+            self.falses[i] = 1;
+            self.literals[self.length] = i as u16;
+            self.length += 1;
         }
-        if 65536 <= self.length {
-            return;
-        }
-        self.falses[i] = 1;
-        self.literals[self.length] = i as u16;
-        self.length += 1;
     }
 
     // The literal l is true from now on.
+    #[tactic(auto, using(crate::proofs::TrailLaws::flip_small))]
     pub fn make_true(&mut self, l: u32)
         ensures { ShapeIn self.old → (l < 65536) → AssumedIn self.old (negation l) self.new }
     {
@@ -77,7 +77,7 @@ impl Trail {
         ensures cut { self.new.length ≤ base }
         ensures kept { self.new.literals ≡ self.old.literals }
     {
-        let n = within(self.length);
+        let n = self.length.min(65536);
         for k in (base..n).rev() {
             self.falses[self.literals[k] as usize] = 0;
         }
