@@ -1,5 +1,4 @@
--- Laws of walks, of marks, and of what a test chooses.
-pub mod Walks
+-- Laws of marks, of what a test chooses, and of membership.
 pub mod MarkLaws
 pub mod Choices
 pub mod Members

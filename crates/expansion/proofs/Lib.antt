@@ -1,5 +1,4 @@
 -- The meaning of the test.
-pub mod Arms
 pub mod Counting
 pub mod Laws
 pub mod ClauseLaws

@@ -35,6 +35,7 @@ pub fn expands_named(
 }
 
 // The same of one of the first c clauses. Most of them are told by the line's first literal, without the marks of `expands`.
+#[tactic(auto, using(matrix::proofs::IndexLaws::any_steps, literals::proofs::Arms::first_unfit), unfolding(crate::specs::Codes::expands_any, crate::specs::Codes::expands_at, crate::specs::Codes::expands_codes))]
 pub fn expands_any(view: View, matrix: &[i32], starts: &Starts, c: usize, least: &mut Least) -> bool
     ensures lent { SameArrays least.old least.new }
     ensures answer { IsEmpty least.old → (result ≡ expands_any_in view.entry matrix.now starts.now c) × IsEmpty least.new }

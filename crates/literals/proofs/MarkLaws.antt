@@ -14,9 +14,8 @@ use Rattle.prefix.specs.Prefix.{is_existential}
 use Rattle.copies.specs.Marks.{marks, Marking, Unmarked}
 use Rattle.copies.specs.Copies.{image_of, images_of}
 use Rattle.copies.proofs.MarkLaws.{marks_length, set_at, twice, zero_there, unmarked_marking}
-use Rattle.copies.proofs.Walks.{all_next, all_fail}
 use Rattle.literals.specs.Literals.{in_clause, in_line, literals_fit}
-use Rattle.literals.specs.Marks.{is_marked, meets, stamped_by, stamped, answered, cleared}
+use Rattle.literals.specs.Marks.{is_marked, meets, stamped_by, answered, cleared}
 use Rattle.literals.proofs.Arms.{fit_no, fit_yes}
 
 -- A MARK IS PASSED: where a mark is stamped, marks stay marks
@@ -50,41 +49,18 @@ module _ (w st : ℕ → ℕ) (cs : List ℕ) where
       go true h = h
       go false h = absurd (false≢true h)
 
-  meets_kept : (s : List ℕ) (x : ℕ) → meets w st cs s x ≡ true → (ls : List ℕ)
+  pub meets_kept : (s : List ℕ) (x : ℕ) → meets w st cs s x ≡ true → (ls : List ℕ)
       → all (meets w st cs (set s (image_of st x) 2)) ls ≡ all (meets w st cs s) ls
   unfolding meets
   meets_kept s x m ls =
       ap (λ (p : ℕ → Bool). all p ls)
       (fun_ext (λ z. ap (λ b. cond (is_existential w (st (z / 2))) b false) (marked_kept cs s (image_of st x) (meets_mark s x m) (image_of st z))))
 
-  module _ {ys zs : List ℕ} {x : ℕ} (e : ys ≡ x ∷ zs) (s : List ℕ) where
-    module _ {r : Bool} {u : List ℕ} (q : r ≡ meets w st cs s x) (k : u ≡ stamped r (image_of st x) s) where
-      one : {b : Bool} → r ≡ b → stamped_by w st cs ys s ≡ cond b (stamped_by w st cs zs (set s (image_of st x) 2)) s
-      unfolding stamped_by
-      one h =
-          ap (λ l. stamped_by w st cs l s) e
-          ∙ ap (λ b. cond b (stamped_by w st cs zs (set s (image_of st x) 2)) s) (sym q ∙ h)
-
-      pub stamped_next : r ≡ true → (all (meets w st cs u) zs ≡ all (meets w st cs s) ys)
-          × (stamped_by w st cs zs u ≡ stamped_by w st cs ys s)
-      unfolding stamped
-      stamped_next h =
-          let m = sym q ∙ h in
-          let f = k ∙ ap (λ b. stamped b (image_of st x) s) h in (
-            ap (λ (v : List ℕ). all (meets w st cs v) zs) f ∙ meets_kept s x m zs ∙ sym (all_next (meets w st cs s) e m),
-            ap (stamped_by w st cs zs) f ∙ sym (one h),
-          )
-
-      pub stamped_fail : r ≡ false → (false ≡ all (meets w st cs s) ys) × (u ≡ stamped_by w st cs ys s)
-      unfolding stamped
-      stamped_fail h =
-          (sym (all_fail (meets w st cs s) e (sym q ∙ h)), k ∙ ap (λ b. stamped b (image_of st x) s) h ∙ sym (one h))
-
 -- A MARK IS TAKEN BACK
 module _ (w st : ℕ → ℕ) (ls : List ℕ) where
   module _ (s : List ℕ) (y : ℕ) where
     -- what was answered stays so
-    answered_kept : answered w st ls s y ≡ true → (zs : List ℕ) → all (answered w st ls (set s y 0)) zs ≡ all (answered w st ls s) zs
+    pub answered_kept : answered w st ls s y ≡ true → (zs : List ℕ) → all (answered w st ls (set s y 0)) zs ≡ all (answered w st ls s) zs
     unfolding answered
     answered_kept a zs = ap (λ (p : ℕ → Bool). all p zs) (fun_ext (λ z. go z (eqb z y) refl))
       where
@@ -104,24 +80,6 @@ module _ (w st : ℕ → ℕ) (ls : List ℕ) where
             ∙ ap (at y (length s)) (zero_there s y) ∙ here (ltb y (length s)) refl ∙ sym (ap (λ k. at k (length s) (get_or s k 0)) q)
         go z false e =
             ap (λ n. at z n (get_or (set s y 0) z 0)) (length-set s y 0) ∙ ap (at z (length s)) (get_or-set_other s y z 0 0 (eqb-false z y e))
-
-  -- THE CLAUSE IS WALKED
-  module _ {ys zs : List ℕ} {y : ℕ} (e : ys ≡ y ∷ zs) (s : List ℕ) (a : Bool) where
-    pub back_next : {r : Bool} {u : List ℕ} → r ≡ answered w st ls s y → u ≡ set s y 0
-        → ((a && r && all (answered w st ls u) zs) ≡ (a && all (answered w st ls s) ys))
-        × (cleared zs u ≡ cleared ys s)
-    unfolding cleared
-    back_next {r} {u} q k = (
-      ap (λ (v : List ℕ). a && r && all (answered w st ls v) zs) k ∙ go a r (sym q)
-          ∙ ap (λ b. a && (b && all (answered w st ls s) zs)) q ∙ sym (ap (λ l. a && all (answered w st ls s) l) e),
-      ap (cleared zs) k ∙ sym (ap (λ l. cleared l s) e),
-    )
-      where
-        go : (a r : Bool) → answered w st ls s y ≡ r
-            → (a && r && all (answered w st ls (set s y 0)) zs) ≡ (a && (r && all (answered w st ls s) zs))
-        go true true h = answered_kept s y h zs
-        go true false h = refl
-        go false r h = refl
 
 -- WHAT THE MARKS SAY
 marked_in : (cs s : List ℕ) → Marking s cs → (y : ℕ) → is_marked cs s y ≡ is_in cs y

@@ -52,6 +52,7 @@ fn stamp_literal(seen: &mut [u8], view: View, matrix: &[i32], c: usize, x: usize
 }
 
 // Each literal of the line does so; the walk stops at one that does not.
+#[tactic(auto, using(crate::proofs::MarkLaws::meets_kept), unfolding(crate::specs::Marks::stamped_by, crate::specs::Marks::stamped))]
 fn stamp_line(seen: &mut [u8], view: View, matrix: &[i32], c: usize) -> bool
     ensures { (result ≡ all (meets (words view.entry) (stands_in view.entry) (list_in matrix.now c)
         seen.old) (line_in view.entry))
@@ -90,6 +91,7 @@ fn clear_code(seen: &mut [u8], view: View, y: usize) -> bool
 }
 
 // The same for each literal of the clause; all marks are taken back, whatever the answer.
+#[tactic(auto, using(crate::proofs::MarkLaws::answered_kept), unfolding(crate::specs::Marks::cleared))]
 fn take_back(seen: &mut [u8], view: View, matrix: &[i32], c: usize) -> bool
     ensures { (result ≡ all (answered (words view.entry) (stands_in view.entry) (line_in view.entry)
         seen.old) (list_in matrix.now c))

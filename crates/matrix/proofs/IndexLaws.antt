@@ -225,3 +225,5 @@ module _ (test : ℕ → Bool) (starts : List ℕ) where
 
       pub any_next : r ≡ false → any_from test starts (i + 1) (n - (i + 1)) ≡ whole
       any_next t = turn t
+
+pub ruleset any_steps = (any_start, any_done, any_found, any_next)
