@@ -10,13 +10,7 @@ ghost use Rattle.cells.specs.Codes.{codes_table, codes_place, codes_left};
 pub fn cell(t: &[i32], i: usize) -> u32
     ensures { result ≡ cell_at t.now i }
 {
-    if i < t.len() {
-        let x = t[i];
-        if 0 <= x {
-            return x as u32;
-        }
-    }
-    0
+    t.get(i).copied().unwrap_or(0).max(0) as u32
 }
 
 // Stores a number below 2^31 at a place, a larger one less its highest bit; nothing past the end.

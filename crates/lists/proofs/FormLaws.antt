@@ -16,6 +16,7 @@ use Rattle.rules.specs.Basics.{maybe}
 use Rattle.rules.specs.Literals.{pos, neg, Lits, vars, var}
 use Rattle.rules.specs.Formula.{Bound}
 use Rattle.rules.specs.Forms.{FormulaLine, binding, CertificateLine, mapping, hints, up_to_zero, literal, numeral, is_zero, ahead, whole, provided, ◌>>=◌, clause_form, hints_form, binding_form, mapping_form}
+use Rattle.std.specs.Bool.{then_some}
 use Rattle.std.specs.Prelude.{Option as Answer, None, Some, Result, Err}
 use Rattle.rules.specs.declared.Rule.{Rule}
 use Rattle.lists.specs.declared.Measure.{Measure}
@@ -136,15 +137,19 @@ module _ (bs : List ℕ) (at : ℕ) where
     unfolding clause_at exactly ended_at
     closed g = ap (λ r. surveyed (r >>= λ r. whole r.0 r.1)) (listed_told bs at h).list ∙ ap (λ t. surveyed (provided t (lits_at bs at))) (sym g)
 
-    pub long_line : {t : Bool} → t ≡ ended_at bs e → t ≡ false → None ≡ clause_at bs at
+    long_line : {t : Bool} → t ≡ ended_at bs e → t ≡ false → None ≡ clause_at bs at
     long_line g f = sym (closed (sym f ∙ g))
 
-    pub good_line : {t : Bool} → t ≡ ended_at bs e → t ≡ true → Some q ≡ clause_at bs at
+    good_line : {t : Bool} → t ≡ ended_at bs e → t ≡ true → Some q ≡ clause_at bs at
     good_line g f =
         let o = listed_told bs at h in
         ap₂ (λ x y. Some (record { negative = x; count = y; largest = q.largest })) o.sign o.count
         ∙ ap (λ z. Some (record { negative = has_minus (lits_at bs at); count = length (lits_at bs at); largest = z })) o.most
         ∙ sym (closed (sym f ∙ g))
+
+    pub ended_line : (t : Bool) → t ≡ ended_at bs e → then_some t q ≡ clause_at bs at
+    ended_line true g = good_line g refl
+    ended_line false g = long_line g refl
 
   pub clause_lost : clause_at bs at ≡ None → exactly literal (tokens_from bs at) ≡ none
   unfolding clause_at
@@ -333,6 +338,29 @@ module _ (bs : List ℕ) where
                 annotation = clause_told bs h c;
                 form = lengths (eq-eqb q.count t.count u);
               }
+
+    -- the same whatever the tests before
+    module _ {q : Measure} {i : ℕ} (a : listed_at bs at ≡ Some (q, i)) where
+      unsigned_1 : (q.negative ≡ false → mapping_form (tokens_from bs at) ≡ none) → mapping_form (tokens_from bs at) ≡ none
+      unsigned_1 otherwise = go q.negative refl
+        where
+          go : (b : Bool) → q.negative ≡ b → mapping_form (tokens_from bs at) ≡ none
+          go true z = signed_1 a z
+          go false z = otherwise z
+
+      pub none_second : listed_at bs i ≡ None → mapping_form (tokens_from bs at) ≡ none
+      none_second b = unsigned_1 (λ z. lost_2 a z b)
+
+      module _ {t : Measure} {h : ℕ} (b : listed_at bs i ≡ Some (t, h)) where
+        unsigned_2 : (q.negative ≡ false → t.negative ≡ false → mapping_form (tokens_from bs at) ≡ none) → mapping_form (tokens_from bs at) ≡ none
+        unsigned_2 otherwise = unsigned_1 (λ z. go z t.negative refl)
+          where
+            go : q.negative ≡ false → (x : Bool) → t.negative ≡ x → mapping_form (tokens_from bs at) ≡ none
+            go z true y = signed_2 a z b y
+            go z false y = otherwise z y
+
+        pub none_third : clause_at bs h ≡ None → mapping_form (tokens_from bs at) ≡ none
+        none_third c = unsigned_2 (λ z y. lost_3 a z b y c)
 
     pub lists : {k m p e l i h : ℕ} → Mapped bs at k m p e l i h
         → Some (record { copies = k; literals = m; highest_copy = p; highest_existential = e; highest_universal = l; existentials_at = i; literals_at = h }) ≡ mapping_at bs at

@@ -1,6 +1,6 @@
 -- Laws of a number without a sign. Assumes nothing.
 use mathlib.Core.Path.{◌≡◌, refl, ap, sym, ◌∙◌, subst}
-use mathlib.Core.Bool.{Bool, cond}
+use mathlib.Core.Bool.{Bool, true, false, cond}
 use mathlib.Core.List.{List, [], ◌∷◌}
 use mathlib.Core.Logic.{◌⊎◌, inl, inr}
 use mathlib.Core.Option.{none, some}
@@ -11,6 +11,7 @@ use lib.ListN.{length}
 use borrow.Author.Tests.{eq-eqb, ne_eqb}
 use Rattle.lines.specs.Lines.{Token, number, minus, word}
 use Rattle.std.specs.Prelude.{Option as Answer, None, Some}
+use Rattle.std.specs.Bool.{then_some}
 use Rattle.lines.specs.Scan.{cap, tokens_from, end_at, literal_at}
 use Rattle.lines.proofs.Words.{Told, Coded, literal_told, literal_lost}
 use Rattle.rules.specs.Forms.{numeral, one, up_to_zero, ahead}
@@ -23,14 +24,13 @@ module _ (bs : List ℕ) (at : ℕ) where
   unfolding natural_at
   natural_none p = sym (ap natural_of p)
 
-  module _ {x e : ℕ} (p : literal_at bs at ≡ Some (x, e)) where
-    pub natural_even : x % 2 ≡ 0 → Some (x / 2, e) ≡ natural_at bs at
-    unfolding natural_at
-    natural_even h = sym (ap natural_of p ∙ ap (λ t. cond t (Some (x / 2, e)) None) (eq-eqb (x % 2) 0 h))
-
-    pub natural_odd : (x % 2 ≡ 0 → ⊥) → None ≡ natural_at bs at
-    unfolding natural_at
-    natural_odd h = sym (ap natural_of p ∙ ap (λ t. cond t (Some (x / 2, e)) None) (ne_eqb (x % 2) 0 h))
+  pub natural_even : {x e : ℕ} → literal_at bs at ≡ Some (x, e) → then_some {T = ℕ × ℕ} (eqb (x % 2) 0) (x / 2, e) ≡ natural_at bs at
+  unfolding natural_at
+  natural_even {x} {e} p = go (eqb (x % 2) 0) ∙ sym (ap natural_of p)
+    where
+      go : (t : Bool) → then_some {T = ℕ × ℕ} t (x / 2, e) ≡ cond t (Some (x / 2, e)) None
+      go true = refl
+      go false = refl
 
 -- WHAT THE TOKENS ARE: the number as written
 pub record Numeral (bs : List ℕ) (at n e : ℕ) : Type 0 where

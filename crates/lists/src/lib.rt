@@ -14,10 +14,7 @@ pub fn natural_at(line: &[u8], at: usize) -> Option<(u32, usize)>
     ensures { result ≡ natural_at line.now at }
 {
     let (x, e) = lines::literal_at(line, at)?;
-    if x % 2 == 0 {
-        return Some((x / 2, e));
-    }
-    None
+    (x % 2 == 0).then_some((x / 2, e))
 }
 
 // What the first pass says of literals: whether one is negative, how many there are, and the largest variable, at most the cap.
@@ -71,10 +68,7 @@ pub fn clause_at(line: &[u8], at: usize) -> Option<Measure>
     ensures { result ≡ clause_at line.now at }
 {
     let (measure, e) = list_at(line, at)?;
-    if lines::ended(line, e) {
-        return Some(measure);
-    }
-    None
+    lines::ended(line, e).then_some(measure)
 }
 
 // The three lists of a mapping line: their lengths, the first two equal, their largest variables, and where the second and the third start.
@@ -93,15 +87,9 @@ pub fn mapping_at(line: &[u8], at: usize) -> Option<MappingLists>
     ensures { result ≡ mapping_at line.now at }
 {
     let (copies, i) = list_at(line, at)?;
-    if copies.negative {
-        return None;
-    }
     let (existentials, h) = list_at(line, i)?;
-    if existentials.negative {
-        return None;
-    }
     let literals = clause_at(line, h)?;
-    if copies.count != existentials.count {
+    if copies.negative || existentials.negative || copies.count != existentials.count {
         return None;
     }
     Some(MappingLists {

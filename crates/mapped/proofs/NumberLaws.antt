@@ -18,7 +18,7 @@ use Rattle.rules.specs.Literals.{pos, neg, Lits, vars}
 use Rattle.rules.specs.Forms.{up_to_zero, literal}
 use Rattle.lists.specs.Lists.{lits_at, is_list}
 use Rattle.lists.proofs.ListLaws.{upto_zero, upto_more, pair_parts, ahead_some, Listing, is_lost, is_end, is_more}
-use Rattle.mapped.specs.Numbers.{numbers_in, numbers_at, end_of, ruled, items_from}
+use Rattle.mapped.specs.Numbers.{numbers_in, numbers_at, end_of, ruled, items_from, Further}
 
 -- THE END OF A LIST
 end_bad : (bs : List ℕ) (i : ℕ) → is_list bs i ≡ false → 2 ≡ end_of bs i
@@ -73,6 +73,9 @@ module _ (bs : List ℕ) (i : ℕ) where
         go (word w) c f = absurd c
 
     -- and the next place is further on
+    pub place_further : Further bs (Some i) (Some e)
+    place_further = (told.further, told.within)
+
     pub number_further : items_from bs (Some e) < items_from bs (Some i)
     number_further = let f = told.further in let w = told.within in omega arith
 

@@ -50,8 +50,16 @@ items_from bs (Some at) = suc (length bs - at)
 abbrev pub items_left : Numbers → Count
 items_left s = at_most (items_from s.line.now s.at)
 
--- WHAT A CALL GIVES: the first variable that is left, above 0; or the refusal of the list's end; or nothing at its zero
+-- the place after a literal is further on, and within the line
+abbrev pub Further : List ℕ → Option ℕ → Option ℕ → Type 0
+Further bs (Some at) (Some after) = (at < after) × (after ≤ length bs)
+Further bs (Some at) None = ⊥
+Further bs None next = ⊥
+
+-- WHAT A CALL GIVES: the first variable that is left, above 0, and the place after it; or the refusal of the list's end; or nothing at its zero
 abbrev pub GivesNumber : Numbers → Option (Result ℕ Rule) → Numbers → Type 0
-GivesNumber old (Some (Ok v)) new = (numbers_left old ≡ v ∷ numbers_left new) × (end_left old ≡ end_left new) × (0 < v) × (v ≤ cap)
+GivesNumber old (Some (Ok v)) new =
+    (numbers_left old ≡ v ∷ numbers_left new) × (end_left old ≡ end_left new) × (0 < v) × (v ≤ cap)
+    × (new.line.now ≡ old.line.now) × Further old.line.now old.at new.at
 GivesNumber old (Some (Err rule)) new = (numbers_left old ≡ []) × (number rule ≡ end_left old)
 GivesNumber old None new = (numbers_left old ≡ []) × (end_left old ≡ 0)

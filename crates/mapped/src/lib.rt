@@ -22,8 +22,7 @@ pub type Noted = [u8; 16385];
 pub fn is_mapped(noted: &Noted, x: u32) -> bool
     ensures { result ≡ is_noted noted.now (x / 2) }
 {
-    let p = (x / 2) as usize;
-    p <= COPIES && noted[p] != 0
+    noted.get((x / 2) as usize).is_some_and(|note| *note != 0)
 }
 
 // Notes the variables of the list at `at`. The rule is broken by one that is noted already or above 16384.

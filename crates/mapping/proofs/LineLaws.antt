@@ -1,6 +1,6 @@
 -- A mapping line leads to what the rules say. Assumes nothing.
 use mathlib.Core.Path.{◌≡◌, refl, ap, ap₂, sym, ◌∙◌, subst}
-use mathlib.Core.Bool.{Bool, true, false, ◌&&◌, cond, false≢true}
+use mathlib.Core.Bool.{Bool, true, false, ◌&&◌, false≢true}
 use mathlib.Core.List.{List, [], ◌++◌, map}
 use mathlib.Core.Option.{Option, none, some}
 use Rattle.std.proofs.Common.{Result, Ok, Err}
@@ -9,7 +9,8 @@ use native.Mathlib.Omega.{arith}
 use lib.ListN.{length, replicate}
 use lib.IntN.{ℤ}
 use lib.Dec.{leb}
-use borrow.Author.Tests.{leb-true}
+use borrow.Author.Tests.{leb-true, le-leb, lt-leb}
+use Rattle.std.proofs.lemmas.Bool.{and_left, and_right}
 use Rattle.lines.specs.Lists.{all}
 use Rattle.lines.specs.Scan.{tokens_from}
 use Rattle.cells.specs.Cells.{cell_at, list_at, Kept}
@@ -23,7 +24,7 @@ use Rattle.lists.proofs.StoreLaws.{Stored, list_in_table}
 use Rattle.rules.specs.Basics.{distinct}
 use Rattle.rules.specs.Literals.{Lits, vars}
 use Rattle.rules.specs.declared.Rule.{Rule}
-use Rattle.rules.specs.declared.Rule.TheVariants.{Malformed}
+use Rattle.rules.specs.declared.Rule.TheVariants.{Malformed, OutOfRange, TableFull}
 use Rattle.rules.specs.Rule.{number}
 use Rattle.rules.proofs.RuleLaws.{number_not_zero}
 use Rattle.rules.specs.Formula.{Formula}
@@ -33,7 +34,7 @@ use Rattle.rules.specs.Step.{◌unless◌, ◌then◌}
 use Rattle.rules.specs.FormulaLines.{up_to_v}
 use Rattle.rules.specs.Codes.{code_of}
 use Rattle.rules.specs.Expansion.{Copy, copies, copy_vars, is_mapped, stands_for, annotation, mapping_rules}
-use Rattle.rules.proofs.Kit.{and_l, and_r}
+use Rattle.rules.proofs.Kit.{and_l, and_r, and_i}
 use Rattle.rules.proofs.ProperLaw.{proper_mapping}
 use Rattle.mapping.specs.declared.Mapped.{Mapped}
 use Rattle.mapped.specs.Numbers.{numbers_at, end_of, ruled}
@@ -41,7 +42,7 @@ use Rattle.mapped.specs.Marks.{marking, noting, Notes}
 use Rattle.annotation.specs.Annotation.{annotates}
 use Rattle.mapping.specs.Stores.{Written, written, copying}
 use Rattle.mapping.specs.Shown.{MappingShown}
-use Rattle.mapping.specs.MappingLine.{ranged, roomy, early, Lent, after, refusal, Before, After, Unwritten, Leads, MappingLine}
+use Rattle.mapping.specs.MappingLine.{ranged, Lent, after, refusal, Before, After, Unwritten, Leads, MappingLine}
 use Rattle.mapped.proofs.NumberLaws.{list_ends, ruled_kept, ruled_broken}
 use Rattle.mapped.proofs.MarkLaws.{noted_start}
 use Rattle.mapping.proofs.CopyLaws.{copying_kept, Taken, taken_later, apart_distinct, taken_copies}
@@ -73,13 +74,6 @@ pub record Passed (turn range room : Bool) : Type 0 where
   pub sequence : turn ≡ true
   pub in_range : range ≡ true
   pub has_room : room ≡ true
-
-early_passed : (turn range room : Bool) {n : ℕ} → n ≡ early turn range room → n ≡ 0 → Passed turn range room
-unfolding early
-early_passed true true true q z = record { sequence = refl; in_range = refl; has_room = refl }
-early_passed true true false q z = absurd (omega arith)
-early_passed true false room q z = absurd (omega arith)
-early_passed false range room q z = absurd (omega arith)
 
 -- the tables as they were, with any marks
 abbrev marked_as : Lent → List ℕ → Lent
@@ -136,7 +130,7 @@ module _ {bs : List ℕ} {at k m c e l i h : ℕ} (o : Lists bs at k m c e l i h
   high = max s.largest c
 
   abbrev room_there : Bool
-  room_there = roomy need (length t.map) high (length t.values)
+  room_there = leb need (length t.map) && leb high (length t.values)
 
   abbrev q : Mapped
   q = after s ps es ls
@@ -160,20 +154,17 @@ module _ {bs : List ℕ} {at k m c e l i h : ℕ} (o : Lists bs at k m c e l i h
 
     -- rule 15
     room_rule : ranged v c e l ≡ true → room_there ≡ (leb q.used (length t.map) && leb q.largest (length t.values))
-    unfolding roomy
     room_rule range = ap₂ (λ a b. leb a (length t.map) && leb b (length t.values)) used_after (largest_after range)
 
     -- REFUSED by what the first pass tells
-    led_early : (d : Rule) → number d ≡ early turn (ranged v c e l) room_there → Led (Err d) t (refusal turn s t f n ps es ls)
-    unfolding early
-    led_early d x = go turn refl (ranged v c e l) refl room_there refl x
-      where
-        go : (a : Bool) → turn ≡ a → (b : Bool) → ranged v c e l ≡ b → (w : Bool) → room_there ≡ w
-            → number d ≡ cond a (cond b (cond w 0 15) 3) 2 → Led (Err d) t (refusal turn s t f n ps es ls)
-        go true a true b true w r = absurd (number_not_zero d r)
-        go true a true b false w r = led_by (Err d) t a b (sym (room_rule b) ∙ w) refl (r, unwritten t t.noted)
-        go true a false b w y r = led_by (Err d) t a b refl refl (r, unwritten t t.noted)
-        go false a b y w u r = led_by (Err d) t a refl refl refl (r, unwritten t t.noted)
+    led_turn : turn ≡ false → Led (Err Malformed) t (refusal turn s t f n ps es ls)
+    led_turn a = led_by (Err Malformed) t a refl refl refl (refl, unwritten t t.noted)
+
+    led_range : turn ≡ true → ranged v c e l ≡ false → Led (Err OutOfRange) t (refusal turn s t f n ps es ls)
+    led_range a b = led_by (Err OutOfRange) t a b refl refl (refl, unwritten t t.noted)
+
+    led_room : turn ≡ true → ranged v c e l ≡ true → room_there ≡ false → Led (Err TableFull) t (refusal turn s t f n ps es ls)
+    led_room a b w = led_by (Err TableFull) t a b (sym (room_rule b) ∙ w) refl (refl, unwritten t t.noted)
 
     -- AFTER the first pass
     module _ (passed : Passed turn (ranged v c e l) room_there) where
@@ -183,11 +174,9 @@ module _ {bs : List ℕ} {at k m c e l i h : ℕ} (o : Lists bs at k m c e l i h
       -- what is stored
       module _ (fresh : distinct (ps ++ copy_vars n) ≡ true) where
         long : q.used ≤ length t.map
-        unfolding roomy
         long = let x = leb-true need (length t.map) (and_l (leb need (length t.map)) (leb high (length t.values)) passed.has_room) in omega (arith, used_after)
 
         wide : q.largest ≤ length t.values
-        unfolding roomy
         wide =
             let x = leb-true high (length t.values) (and_r (leb need (length t.map)) (leb high (length t.values)) passed.has_room) in
             omega (arith, largest_after passed.in_range)
@@ -222,18 +211,30 @@ module _ {bs : List ℕ} {at k m c e l i h : ℕ} (o : Lists bs at k m c e l i h
             (omega (arith, ps_long o, es_long o, ls_long o)) refl
 
   -- WHAT THE CODE ANSWERS
-  early_as : {d top : ℕ} {x y : Bool} → top ≡ high → x ≡ roomy need (length t.map) top (length t.values) → y ≡ ranged v c e l → d ≡ early turn y x
-      → d ≡ early turn (ranged v c e l) room_there
-  early_as g r w q = q ∙ ap₂ (early turn) w (r ∙ ap (λ h. roomy need (length t.map) h (length t.values)) g)
+  pub line_late : turn ≡ false → MappingLine bs at turn v s prefix t (Err Malformed) t
+  line_late a = line_formed bs at turn v s prefix t o.form (Err Malformed) t (λ f n b. led_turn f n b a) refl refl
 
-  pub line_early : (d : Rule) {top : ℕ} {x y : Bool} → top ≡ high → x ≡ roomy need (length t.map) top (length t.values) → y ≡ ranged v c e l
-      → number d ≡ early turn y x → MappingLine bs at turn v s prefix t (Err d) t
-  line_early d g r w q =
-      line_formed bs at turn v s prefix t o.form (Err d) t (λ f n b. led_early f n b d (early_as g r w q)) refl refl
+  module _ (a : turn ≡ true) {y : Bool} (r : y ≡ ranged v c e l) where
+    pub line_high : y ≡ false → MappingLine bs at turn v s prefix t (Err OutOfRange) t
+    line_high b = line_formed bs at turn v s prefix t o.form (Err OutOfRange) t (λ f n g. led_range f n g a (sym r ∙ b)) refl refl
 
-  pub line_passed : {d top : ℕ} {x y : Bool} → top ≡ high → x ≡ roomy need (length t.map) top (length t.values) → y ≡ ranged v c e l → d ≡ early turn y x
-      → d ≡ 0 → Passed turn (ranged v c e l) room_there
-  line_passed g r w q z = early_passed turn (ranged v c e l) room_there (early_as g r w q) z
+    module _ (b : y ≡ true) where
+      no_room : room_there ≡ false → MappingLine bs at turn v s prefix t (Err TableFull) t
+      no_room w = line_formed bs at turn v s prefix t o.form (Err TableFull) t (λ f n g. led_room f n g a (sym r ∙ b) w) refl refl
+
+      pub line_long : length t.map < need → MappingLine bs at turn v s prefix t (Err TableFull) t
+      line_long w = no_room (and_left (leb need (length t.map)) (leb high (length t.values)) (lt-leb need (length t.map) w))
+
+      module _ {top : ℕ} (g : top ≡ high) where
+        pub line_wide : length t.values < top → MappingLine bs at turn v s prefix t (Err TableFull) t
+        line_wide w = no_room (and_right (leb need (length t.map)) (leb high (length t.values)) (lt-leb high (length t.values) (omega (arith, w, g))))
+
+        pub line_passed : need ≤ length t.map → top ≤ length t.values → Passed turn (ranged v c e l) room_there
+        line_passed w z = record {
+          sequence = a;
+          in_range = sym r ∙ b;
+          has_room = and_i (leb need (length t.map)) (leb high (length t.values)) (le-leb need (length t.map) w) (le-leb high (length t.values) (omega (arith, z, g)));
+        }
 
   module _ (passed : Passed turn (ranged v c e l) room_there) {r : Bool} {noted : List ℕ} (notes : marking r noted ≡ noting (numbers_at bs at) t.noted) where
     rules_as : (f : Formula) (n : List Copy) (b : Before (length bs) v s prefix t f n) {x a y : Bool} → r ≡ x

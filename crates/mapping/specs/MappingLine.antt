@@ -1,5 +1,5 @@
 -- A mapping line: what its first pass tells, and what the line leads to. Assumes nothing.
-use Rattle.std.specs.Prelude.{◌≡◌, Bool, ◌&&◌, cond, List, ◌++◌, ℕ, ◌+◌, ◌*◌, ◌<◌, ◌≤◌, max, leb, length, ℤ, Result, Ok, Err}
+use Rattle.std.specs.Prelude.{◌≡◌, Bool, ◌&&◌, List, ◌++◌, ℕ, ◌+◌, ◌*◌, ◌<◌, ◌≤◌, max, leb, length, ℤ, Result, Ok, Err}
 use Rattle.std.proofs.Math.Option.{Option, none, some}
 use Rattle.lines.specs.Lists.{all}
 use Rattle.lines.specs.Scan.{tokens_from}
@@ -23,14 +23,6 @@ use Rattle.mapping.specs.Shown.{MappingShown}
 -- the largest copy, existential and universal of the line are in range
 unfoldable pub ranged : ℕ → ℕ → ℕ → ℕ → Bool
 ranged v c e l = leb c 16384 && leb e v && leb l v
-
--- the needs of the map and of the values are at most the lengths
-unfoldable pub roomy : ℕ → ℕ → ℕ → ℕ → Bool
-roomy need long high wide = leb need long && leb high wide
-
--- 2, 3 or 15; 0 if none of them
-unfoldable pub early : Bool → Bool → Bool → ℕ
-early turn range room = cond turn (cond range (cond room 0 15) 3) 2
 
 -- WHAT IS LENT: the map and the values table, and the marks
 pub record Lent : Type 0 where

@@ -4,9 +4,8 @@
 mod stores;
 
 ghost use Rattle.std.specs.Prelude.{◌≡◌};
-ghost use Rattle.rules.specs.Rule.{broken};
 ghost use Rattle.tables.specs.Lent.{tables_of, SameLent};
-ghost use Rattle.mapping.specs.MappingLine.{ranged, roomy, early, lent, MappingLine};
+ghost use Rattle.mapping.specs.MappingLine.{ranged, lent, MappingLine};
 
 use annotation::annotates;
 use lists::MappingLists;
@@ -36,31 +35,6 @@ fn ranged(v: u32, lists: MappingLists) -> bool
         && lists.highest_universal <= v
 }
 
-// Rule 15: what is needed of the map and of the values is there.
-#[tactic(auto, unfolding(crate::specs::MappingLine::roomy))]
-fn roomy(need: usize, long: usize, high: usize, wide: usize) -> bool
-    ensures { result ≡ roomy need long high wide }
-{
-    need <= long && high <= wide
-}
-
-// The rule broken by what the first pass tells: 2, 3 or 15.
-#[tactic(auto, unfolding(crate::specs::MappingLine::early))]
-fn early(in_turn: bool, in_range: bool, room: bool) -> Result<(), Rule>
-    ensures { broken result ≡ early in_turn in_range room }
-{
-    if !in_turn {
-        return Err(Rule::Malformed);
-    }
-    if !in_range {
-        return Err(Rule::OutOfRange);
-    }
-    if !room {
-        return Err(Rule::TableFull);
-    }
-    Ok(())
-}
-
 // A mapping line, from the place after its letter on; `in_turn` if no line of a later kind came before.
 pub fn mapping_line(
     line: &[u8],
@@ -79,15 +53,17 @@ pub fn mapping_line(
     ensures lent { SameLent tables.old tables.new }
 {
     let lists = lists::mapping_at(line, at).ok_or(Rule::Malformed)?;
+    if !in_turn {
+        return Err(Rule::Malformed);
+    }
+    if !ranged(v, lists) {
+        return Err(Rule::OutOfRange);
+    }
     let used = state.used % PLACES + (2 * lists.copies + lists.literals + 3);
     let largest = state.largest.max(lists.highest_copy);
-    let room = roomy(
-        used,
-        tables.map.len(),
-        largest as usize,
-        tables.values.len(),
-    );
-    early(in_turn, ranged(v, lists), room)?;
+    if tables.map.len() < used || tables.values.len() < largest as usize {
+        return Err(Rule::TableFull);
+    }
     fresh(line, at, noted)?;
     let prefix = &mut *tables.prefix;
     annotates(line, lists.existentials_at, lists.literals_at, prefix)?;

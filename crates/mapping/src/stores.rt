@@ -12,34 +12,6 @@ use lists::MappingLists;
 use mapped::numbers::Numbers;
 use rules::Rule;
 
-// The copies at `at`, with their existentials at `from`, from place `first` of the map on.
-fn put_copies(
-    line: &[u8],
-    at: usize,
-    from: usize,
-    note: u32,
-    first: usize,
-    map: &mut [i32],
-    values: &mut [i32],
-) -> Result<(), Rule>
-    ensures { (note < 2147483648 → first + 2 * length line.now < 2147483648
-        → written map.new values.new
-        ≡ copying note (numbers_at line.now at) (numbers_at line.now from) first map.old values.old)
-        × (is_list line.now at ≡ true → is_list line.now from ≡ true → broken result ≡ 0) }
-{
-    let mut place = first;
-    for (copy, existential) in Numbers::new(line, at).zip(Numbers::new(line, from)) {
-        let p = copy?;
-        let e = existential?;
-        let k = place % PLACES;
-        cells::put(map, k, e as u32);
-        cells::put(map, k + 1, note);
-        cells::put(values, p - 1, k as u32);
-        place = k + 2;
-    }
-    Ok(())
-}
-
 // The literals of the annotation, from place `used` of the map on, and after them the copies, which stand at `at`.
 pub fn store(
     line: &[u8],
@@ -57,15 +29,17 @@ pub fn store(
         (puts map.old used (codes_at line.now lists.literals_at)) values.old) }
 {
     let note = used % PLACES;
-    let first = note + lists.literals % PLACES + 1;
     lists::store_list(line, lists.literals_at, map, note)?;
-    put_copies(
-        line,
-        at,
-        lists.existentials_at,
-        note as u32,
-        first,
-        map,
-        values,
-    )
+    let mut place = note + lists.literals % PLACES + 1;
+    let existentials = Numbers::new(line, lists.existentials_at);
+    for (copy, existential) in Numbers::new(line, at).zip(existentials) {
+        let p = copy?;
+        let e = existential?;
+        let k = place % PLACES;
+        cells::put(map, k, e as u32);
+        cells::put(map, k + 1, note as u32);
+        cells::put(values, p - 1, k as u32);
+        place = k + 2;
+    }
+    Ok(())
 }

@@ -18,15 +18,6 @@ returns-then-word-ne0 c = let l = c.loop-x in let p = ap (λ t. literal_at t (li
 pub overflow_sub-x : goal.overflow_sub-x
 overflow_sub-x c = let l = c.loop-x in let p = ap (λ t. literal_at t (literals_at l.x-iterator)) (sym l.invariant.0) ∙ c.in-Some.ensures.steps.0 in let w = on_the_way _ _ p in variable_1 l.invariant.1 p c.if-x-eq0.false
 
-pub overflow_mul-k : goal.overflow_mul-k
-overflow_mul-k c = let l = c.loop-x in let p = ap (λ t. literal_at t (literals_at l.x-iterator)) (sym l.invariant.0) ∙ c.in-Some.ensures.steps.0 in let w = on_the_way _ _ p in omega (arith, l.invariant.1.steps, c.requires)
-
-pub overflow_add-k : goal.overflow_add-k
-overflow_add-k c = let l = c.loop-x in let p = ap (λ t. literal_at t (literals_at l.x-iterator)) (sym l.invariant.0) ∙ c.in-Some.ensures.steps.0 in let w = on_the_way _ _ p in omega (arith, l.invariant.1.steps, c.requires, c.from-q.ensures, number_small c.args.quantifier)
-
-pub overflow_add-k-in-loop-x : goal.overflow_add-k-in-loop-x
-overflow_add-k-in-loop-x c = let l = c.loop-x in let p = ap (λ t. literal_at t (literals_at l.x-iterator)) (sym l.invariant.0) ∙ c.in-Some.ensures.steps.0 in let w = on_the_way _ _ p in omega (arith, l.invariant.1.steps, c.requires)
-
 pub loop-x-preserved : goal.loop-x-preserved
 loop-x-preserved c = let l = c.loop-x in let p = ap (λ t. literal_at t (literals_at l.x-iterator)) (sym l.invariant.0) ∙ c.in-Some.ensures.steps.0 in let w = on_the_way _ _ p in (
   c.in-Some.ensures.steps.1 ∙ l.invariant.0,

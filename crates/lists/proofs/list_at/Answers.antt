@@ -1,22 +1,10 @@
 use native.Mathlib.Omega.{arith}
 use mathlib.Core.Path.{refl, ap, sym, ◌∙◌}
 use Rattle.lines.specs.Scan.{literal_at}
-use Rattle.lines.specs.Literals.{literals_line, literals_at}
+use Rattle.lines.specs.Literals.{literals_at}
 use Rattle.lists.specs.Lists.{listed_at}
-use Rattle.lists.proofs.ListLaws.{merged, merged_none, turn_lost, turn_end, turn_on, on_the_way}
+use Rattle.lists.proofs.ListLaws.{merged, turn_lost, turn_end, turn_on, on_the_way}
 use Rattle.lists.proofs.list_at.Goals as goal
-
-pub loop-x-init : goal.loop-x-init
-loop-x-init c =
-    let e = c.into_iter-x-iterator.ensures.into_iter_gives in
-    let n = c.new-x-items.ensures in
-    let p = ap literals_at e ∙ n.1 in
-    let z = c.none-measure.ensures in (
-      ap literals_line e ∙ n.0,
-      omega (arith, ap (λ q. q.count) z),
-      ap (λ q. merged q.negative q.count q.largest (listed_at c.args.line.now (literals_at c.into_iter-x-iterator.result))) z
-          ∙ merged_none _ ∙ ap (listed_at c.args.line.now) p,
-    )
 
 pub returns-then-x-eq0 : goal.returns-then-x-eq0
 returns-then-x-eq0 c = let l = c.loop-x in

@@ -1,16 +1,9 @@
 use native.Mathlib.Omega.{arith}
 use mathlib.Core.Path.{ap, sym, ◌∙◌}
 use Rattle.lines.specs.Scan.{literal_at}
-use Rattle.lines.specs.Literals.{literals_line, literals_at}
-use Rattle.lists.proofs.StoreLaws.{storing_start, storing_lost, storing_end, storing_more}
+use Rattle.lines.specs.Literals.{literals_at}
+use Rattle.lists.proofs.StoreLaws.{storing_lost, storing_end, storing_more}
 use Rattle.lists.proofs.store_list.Goals as goal
-
-pub loop-x-init : goal.loop-x-init
-loop-x-init c =
-    let e = c.into_iter-x-iterator.ensures.into_iter_gives in
-    let n = c.new-x-items.ensures in
-    let p = ap literals_at e ∙ n.1 in
-    (ap literals_line e ∙ n.0, storing_start p)
 
 pub returns-then-x-eq0 : goal.returns-then-x-eq0
 returns-then-x-eq0 c = let l = c.loop-x in

@@ -1,9 +1,0 @@
-use Rattle.std.specs.Iterator.Adapters.{zip_first, zip_second}
-use Rattle.mapped.specs.Numbers.{numbers_left, end_left}
-use Rattle.mapping.proofs.CopyLaws.{Copying}
-use Rattle.mapping.proofs.stores.put_copies.Given as goal
-
-abbrev pub invariant-loop-copy : goal.invariant-loop-copy
-invariant-loop-copy l =
-    Copying l.line l.at l.from l.note l.first l.initial.map l.initial.values l.map l.values (numbers_left (zip_first l.copy-iterator)) (end_left (zip_first l.copy-iterator))
-    (numbers_left (zip_second l.copy-iterator)) (end_left (zip_second l.copy-iterator)) l.place
