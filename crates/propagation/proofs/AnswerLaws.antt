@@ -61,14 +61,6 @@ pub settle_good : {S : List (List ℕ)} {f₀ t₀ : List ℕ} {n₀ : ℕ} {f t
 unfolding Settled
 settle_good m g = (m, g)
 
-pub visited_stable : {S : List (List ℕ)} {f₀ t₀ : List ℕ} {n₀ : ℕ} {f t : List ℕ} {n : ℕ} → Moved (Good S) f₀ t₀ n₀ f t n → Visited S f₀ t₀ n₀ f t n outcome.Stable
-unfolding Visited
-visited_stable m = m
-
-pub turned_some : {S : List (List ℕ)} {f₀ t₀ : List ℕ} {n₀ : ℕ} {f t : List ℕ} {n : ℕ} (w : ℕ) → Moved (Good S) f₀ t₀ n₀ f t n → Turned S f₀ t₀ n₀ f t n (Some w)
-unfolding Turned
-turned_some w m = m
-
 pub moved_as : {G : (ℕ → Bool) → Type 0} {a : Trail} {b c : Propagation} → c ≡ b → MovedIn G a b.trail → MovedIn G a c.trail
 moved_as {G} {a} e m = subst (λ (x : Propagation). MovedIn G a x.trail) (sym e) m
 

@@ -52,6 +52,7 @@ pub enum Scan {
 }
 
 // A literal for the clause at place k to watch in place of one that became false, where o is the other that it watches. None: a conflict.
+#[tactic(auto, using(crate::proofs::MoveLaws::moved_refl), unfolding(crate::specs::Answers::Turned))]
 fn judge(standing: Standing, trail: &mut Trail, k: usize, o: u32) -> Option<u32>
     ensures { ReadyIn trail.old → (k < standing.entry.count)
         → TurnedIn (standing_of standing.entry) trail.old trail.new result }
@@ -70,6 +71,7 @@ fn judge(standing: Standing, trail: &mut Trail, k: usize, o: u32) -> Option<u32>
 }
 
 // What a look at every standing clause finds.
+#[tactic(auto, using(crate::proofs::AnswerLaws::scanning_end, crate::proofs::ClauseLaws::scan_falsified, crate::proofs::ClauseLaws::scan_unit))]
 fn scan_all(standing: Standing, trail: &Trail) -> Scan
     ensures { ScannedIn (standing_of standing.entry) trail.now result }
 {
@@ -89,6 +91,7 @@ fn scan_all(standing: Standing, trail: &Trail) -> Scan
 impl Propagation {
     // The clauses that watch l, which is false. The lists may be cyclic for all that is known of them: the walk ends after as many steps as
     // there are nodes.
+    #[tactic(auto, using(crate::proofs::AnswerLaws::clash_on), unfolding(crate::specs::Answers::Visited, crate::specs::Answers::Turned))]
     fn walk(&mut self, standing: Standing, l: u32) -> Outcome
         ensures { ReadyIn self.old.trail → VisitedIn (standing_of standing.entry) self.old.trail self.new.trail result }
     {
@@ -115,6 +118,7 @@ impl Propagation {
     }
 
     // The watches of what became false from place q of the trail on.
+    #[tactic(auto, using(crate::proofs::AnswerLaws::moved_on, crate::proofs::AnswerLaws::clash_on), unfolding(crate::specs::Answers::Visited))]
     fn follow(&mut self, standing: Standing, q: usize) -> Outcome
         ensures { ReadyIn self.old.trail → VisitedIn (standing_of standing.entry) self.old.trail self.new.trail result }
     {
@@ -160,6 +164,7 @@ impl Propagation {
     }
 
     // The clause at place k is watched from now on; a literal that it makes true goes on the trail. None: a conflict.
+    #[tactic(auto, using(crate::proofs::MoveLaws::moved_refl), unfolding(crate::specs::Answers::Turned))]
     fn watch_clause(&mut self, standing: Standing, k: usize) -> Option<u32>
         ensures { ReadyIn self.old.trail → (k < standing.entry.count)
             → TurnedIn (standing_of standing.entry) self.old.trail self.new.trail result }
@@ -183,6 +188,7 @@ impl Propagation {
     }
 
     // The clause at place k, which is new, is watched from now on; up to where the watches of the trail are followed then.
+    #[tactic(auto, using(crate::proofs::HeldLaws::held_turned))]
     pub fn attach(&mut self, standing: Standing, q: usize, k: usize) -> usize
         ensures { HeldIn (standing_of standing.entry) self.old.trail → (k < standing.entry.count)
             → HeldIn (standing_of standing.entry) self.new.trail }

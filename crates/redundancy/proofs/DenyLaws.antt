@@ -193,8 +193,3 @@ module _ {S : List (List ℕ)} (c : List ℕ) {f₀ t₀ : List ℕ} {n₀ : ℕ
   pub refuted_good : {r : Outcome} → r ≡ Stable → Refuted S c f₀ t₀ n₀ f t k r
       → Moved (Both S c) f₀ t₀ n₀ f t k × Good S (truth f) × Denies (truth f) c
   refuted_good e v = unfold Refuted in subst (Refuted S c f₀ t₀ n₀ f t k) e v
-
-  -- the trail has grown, whatever the answer
-  pub refuted_moved : (r : Outcome) → Refuted S c f₀ t₀ n₀ f t k r → Moved (Both S c) f₀ t₀ n₀ f t k
-  refuted_moved Conflict v = (refuted_clash refl v).0
-  refuted_moved Stable v = (refuted_good refl v).0

@@ -1,15 +1,9 @@
 use native.Mathlib.Omega.{arith}
 use mathlib.Core.Path.{◌∙◌, sym}
-use Rattle.propagation.proofs.AnswerLaws.{scanning_off, scanning_end}
-use Rattle.propagation.proofs.ClauseLaws.{scan_falsified, scan_open, scan_true, scan_unit}
+use Rattle.propagation.proofs.AnswerLaws.{scanning_off}
+use Rattle.propagation.proofs.ClauseLaws.{scan_open, scan_true}
 use Rattle.propagation.proofs.scan_all.Goals as goal
 use Rattle.propagation.proofs.scan_all.Goals.{then-stands+in-Unit+else-not-is_true, then-stands+in-Open, else-stands}
-
-pub returns-in-Falsified : goal.returns-in-Falsified
-returns-in-Falsified c = scan_falsified _ _ _ _ (omega arith) c.stands.ensures c.if-stands.true _ c.clause.ensures _ c.read_clause.ensures c.in-Falsified.is
-
-pub returns-in-Unit : goal.returns-in-Unit
-returns-in-Unit c = scan_unit _ _ _ _ (omega arith) c.stands.ensures c.if-stands.true _ c.clause.ensures _ c.read_clause.ensures c.in-Unit.is c.is_true.ensures c.if-not-is_true.true
 
 pub loop-place-preserved : goal.loop-place-preserved
 loop-place-preserved c = elim c.if-stands.branch [
@@ -17,6 +11,3 @@ loop-place-preserved c = elim c.if-stands.branch [
   | then-stands+in-Open w ↦ scan_open _ _ _ _ (omega arith) c.stands.ensures w.if-stands.true _ w.clause.ensures _ w.read_clause.ensures c.loop-place.invariant w.in-Open.is
   | else-stands w ↦ scanning_off _ _ _ _ _ c.loop-place.invariant (omega arith) (sym c.stands.ensures ∙ w.if-stands.false)
 ]
-
-pub returns : goal.returns
-returns c = scanning_end _ _ _ _ _ c.loop-place.invariant (omega arith)
