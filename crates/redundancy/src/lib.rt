@@ -23,6 +23,7 @@ struct Joined<'a> {
 }
 
 // Makes the literals of a clause but skip false, until one of them is true.
+#[tactic(auto, using(crate::proofs::DenyLaws::denying_at))]
 fn deny(clause: Codes, skip: Option<u32>, trail: &mut Trail) -> Outcome
     ensures { ReadyIn trail.old → DeniedIn (less_in clause.entry skip) trail.old trail.new result }
 {
@@ -38,6 +39,7 @@ fn deny(clause: Codes, skip: Option<u32>, trail: &mut Trail) -> Outcome
 }
 
 // The same for a joined clause.
+#[tactic(auto, using(crate::proofs::DenyLaws::joined_stop))]
 fn deny_both(joined: Joined, trail: &mut Trail) -> Outcome
     ensures { ReadyIn trail.old → DeniedIn (joined_in joined.entry) trail.old trail.new result }
 {
@@ -51,6 +53,7 @@ fn deny_both(joined: Joined, trail: &mut Trail) -> Outcome
 }
 
 // Propagation from the negations of a joined clause.
+#[tactic(auto, using(crate::proofs::DenyLaws::refuted_deny, crate::proofs::DenyLaws::refuted_settle), unfolding(crate::specs::Additions::Denied))]
 fn refute(standing: Standing, propagation: &mut Propagation, joined: Joined) -> Outcome
     ensures { ReadyIn propagation.old.trail
         → RefutedIn (standing_of standing.entry) (joined_in joined.entry) propagation.old.trail propagation.new.trail result }
@@ -76,6 +79,7 @@ fn candidate(standing: Standing, propagation: &mut Propagation, joined: Joined) 
 }
 
 // Every standing clause that holds the negation of l is a candidate.
+#[tactic(auto, using(crate::proofs::AdditionLaws::walking_start))]
 fn each(standing: Standing, propagation: &mut Propagation, c: Codes, l: u32) -> bool
     ensures { ReadyIn propagation.old.trail
         → FollowsIn (standing_of standing.entry) (codes_left c.entry) propagation.old.trail
@@ -103,6 +107,7 @@ fn pivot(mut clause: Codes) -> Option<u32>
 }
 
 // Whether clause c, whose negations are on the trail, is RAT.
+#[tactic(auto, using(crate::proofs::AdditionLaws::tried_self, crate::proofs::AdditionLaws::rat_none, crate::proofs::AdditionLaws::rat_first))]
 fn is_rat(standing: Standing, propagation: &mut Propagation, c: Codes) -> bool
     ensures { ReadyIn propagation.old.trail
         → FollowsIn (standing_of standing.entry) (codes_left c.entry) propagation.old.trail
@@ -116,6 +121,7 @@ fn is_rat(standing: Standing, propagation: &mut Propagation, c: Codes) -> bool
 }
 
 // Whether the addition c is RUP or RAT: up to where the watches of the trail are followed then. None: it is neither.
+#[tactic(auto, using(crate::proofs::AdditionLaws::added_closed))]
 pub fn add(standing: Standing, propagation: &mut Propagation, q: usize, c: Codes) -> Option<usize>
     ensures { HeldIn (standing_of standing.entry) propagation.old.trail
         → DecidedIn (standing_of standing.entry) (codes_left c.entry) propagation.new.trail result }

@@ -4,16 +4,13 @@ use Prim.Native.Nat.{ℕ, ◌≤◌}
 use Rattle.trail.specs.declared.Trail.{Trail}
 use Rattle.trail.specs.Trail.{TrailedIn, UndoneIn}
 use Rattle.propagation.proofs.AnswerLaws.{visited_moved}
-use Rattle.redundancy.proofs.AdditionLaws.{added_closed, added_rup, added_moved, rat_asked, added_rat, added_no, told_stable, told_conflict}
+use Rattle.redundancy.proofs.AdditionLaws.{added_rup, added_moved, rat_asked, added_rat, added_no, told_stable, told_conflict}
 use Rattle.redundancy.proofs.add.Goals as goal
 use Rattle.redundancy.proofs.add.Goals.{else-eq-via-then-eq+else-not-is_rat, else-eq-via-else-eq}
 
 -- the trail that is cut back, by another name
 undone_as : {a a' : Trail} {n : ℕ} {b : Trail} → a ≡ a' → (TrailedIn a → (n ≤ a.length) → UndoneIn a n b) → TrailedIn a' → (n ≤ a'.length) → UndoneIn a' n b
 undone_as {a} {a'} {n} {b} e u = subst (λ (x : Trail). TrailedIn x → (n ≤ x.length) → UndoneIn x n b) e u
-
-pub returns-in_default : goal.returns-in_default
-returns-in_default c = λ h. added_closed _ _ h _ _ _ _ c.in_default.is (c.ground.ensures h.ready)
 
 pub returns-then-not-is_rat : goal.returns-then-not-is_rat
 returns-then-not-is_rat c = λ h.

@@ -1,12 +1,7 @@
-use mathlib.Core.Path.{sym, ap, ◌∙◌}
-use Rattle.cells.specs.Codes.{codes_left}
+use mathlib.Core.Path.{sym, ◌∙◌}
 use Rattle.cells.proofs.Laws.{first_code}
-use Rattle.redundancy.specs.Additions.{less_of}
-use Rattle.redundancy.proofs.DenyLaws.{denying_at, denying_done, denying_skip, denying_stop, denying_lit, less_end, less_lit, less_skip}
+use Rattle.redundancy.proofs.DenyLaws.{denying_done, denying_skip, denying_stop, denying_lit, less_end, less_lit, less_skip}
 use Rattle.redundancy.proofs.deny.Goals as goal
-
-pub loop-l-init : goal.loop-l-init
-loop-l-init c = λ r. denying_at _ _ _ _ (ap (less_of c.args.skip) (ap codes_left c.into_iter-l-iterator.ensures.into_iter_gives)) r
 
 pub returns-then-is_true : goal.returns-then-is_true
 returns-then-is_true c = λ r. let s = first_code _ _ _ _ c.in-Some.ensures.steps in

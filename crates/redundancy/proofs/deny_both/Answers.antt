@@ -2,11 +2,8 @@ use mathlib.Core.Path.{refl, ap, sym, ◌∙◌}
 use mathlib.Core.List.{◌++◌, append-nil}
 use Rattle.cells.specs.Codes.{codes_left}
 use Rattle.redundancy.specs.Additions.{rest_of}
-use Rattle.redundancy.proofs.DenyLaws.{denied_as, denied_go, joined, joined_stop}
+use Rattle.redundancy.proofs.DenyLaws.{denied_as, denied_go, joined}
 use Rattle.redundancy.proofs.deny_both.Goals as goal
-
-pub returns-in_default : goal.returns-in_default
-returns-in_default c = λ r. joined_stop _ (rest_of c.args.joined.less) _ _ _ _ _ _ c.in_default.is (c.deny.ensures r)
 
 pub returns-in-None : goal.returns-in-None
 returns-in-None c = λ r. let j = c.args.joined in

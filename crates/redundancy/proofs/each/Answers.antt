@@ -4,7 +4,7 @@ use mathlib.Core.List.{List}
 use Prim.Native.Nat.{ℕ}
 use lib.IntN.{ℤ}
 use Rattle.propagation.specs.declared.Propagation.{Propagation}
-use Rattle.redundancy.proofs.AdditionLaws.{Walking, walking_start, walking_end, walking_off, walking_out, walking_yes, walking_no, follows_kept}
+use Rattle.redundancy.proofs.AdditionLaws.{Walking, walking_end, walking_off, walking_out, walking_yes, walking_no, follows_kept}
 use Rattle.redundancy.proofs.each.Goals as goal
 use Rattle.redundancy.proofs.each.Goals.{then-stands+else-holds, else-holds-via-then-holds+else-not-candidate, else-holds-via-else-holds, else-stands}
 
@@ -14,9 +14,6 @@ at : {t ms : List ℤ} {count l : ℕ} {c t₀ : List ℕ} {n₀ k : ℕ} {a b :
     → Walking t ms count l c t₀ n₀ b.trail.falses b.trail.literals b.trail.length k
 at {t} {ms} {count} {l} {c} {t₀} {n₀} {k} e w =
     subst (λ (x : Propagation). Walking t ms count l c t₀ n₀ x.trail.falses x.trail.literals x.trail.length k) (sym e) w
-
-pub loop-k-init : goal.loop-k-init
-loop-k-init c = λ r h. walking_start _ _ _ _ _ _ _ _ r
 
 pub returns-then-not-candidate : goal.returns-then-not-candidate
 returns-then-not-candidate c = λ r h.
