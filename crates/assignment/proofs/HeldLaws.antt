@@ -20,7 +20,7 @@ use Rattle.rules.proofs.Kit.{clear, and_l, and_r, either, In}
 use Rattle.rules.proofs.Distinct.{in_is_in, is_in_in, distinct_cons}
 use Rattle.copies.specs.Marks.{Unmarked}
 use Rattle.copies.proofs.Members.{any_listed}
-use Rattle.copies.proofs.MarkLaws.{get_or_zeros}
+use Rattle.cells.proofs.Laws.{get_or_zeros}
 use Rattle.assignment.specs.Held.{listed, is_new, adding, joined, zeros, Held, Holds, Noted}
 
 -- THE LIST IN AN ARRAY

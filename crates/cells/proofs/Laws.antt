@@ -6,7 +6,7 @@ use mathlib.Core.Logic.{◌≢◌}
 use Prim.Native.Nat.{ℕ, zero, suc, ◌<◌, ◌≤◌, ◌+◌, ◌-◌, ◌%◌}
 use native.Mathlib.Omega.{arith}
 use native.Mathlib.Numerals.{add-one}
-use lib.ListN.{drop, drop_of_length-le, get_or, set, length, length-set, length-map, get_or-eq_default, get_or-map}
+use lib.ListN.{drop, drop_of_length-le, get_or, set, replicate, length, length-set, length-map, get_or-eq_default, get_or-map}
 use lib.Seq.{get_or-set_same, get_or-set_other, drop-drop, drop-cons}
 use lib.IntN.{ℤ, pos, negsuc, nat_abs}
 use lib.Dec.{leb, ltb}
@@ -161,3 +161,14 @@ drop_set (x ∷ t) (suc i) (suc n) z h = drop_set t i n z (omega arith)
 -- a store below the place
 pub kept_set : {n : ℕ} {t u : List ℤ} (i : ℕ) (z : ℤ) → Kept n t u → i < n → Kept n t (set u i z)
 kept_set {n} {t} {u} i z a h = record { long = length-set u i z ∙ a.long; beyond = drop_set u i n z h ∙ a.beyond }
+
+-- MARKS: a zero that is written is there, since nothing but zero is past the end; and zeros are all zero
+pub zero_there : (s : List ℕ) (i : ℕ) → get_or (set s i 0) i 0 ≡ 0
+zero_there [] i = refl
+zero_there (x ∷ s) zero = refl
+zero_there (x ∷ s) (suc i) = zero_there s i
+
+pub get_or_zeros : (n i : ℕ) → get_or {A = ℕ} (replicate n 0) i 0 ≡ 0
+get_or_zeros zero i = refl
+get_or_zeros (suc n) zero = refl
+get_or_zeros (suc n) (suc i) = get_or_zeros n i

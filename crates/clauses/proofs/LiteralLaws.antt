@@ -14,6 +14,7 @@ use Rattle.std.proofs.lemmas.List.Folds.{list_all_at}
 use Rattle.std.proofs.lemmas.List.Sums.{list_all-from_AllPass}
 use borrow.Author.Tests.{eqb-false}
 use Rattle.cells.specs.Cells.{codes_of, up_to, list_at}
+use Rattle.rules.proofs.Sound.{get_or_in}
 use Rattle.rules.proofs.Kit.{In, either}
 use Rattle.clauses.specs.declared.Store.{Store}
 use Rattle.clauses.specs.Standing.{pending, written_at}
@@ -50,11 +51,6 @@ pub literal_some : (t : List ℤ) (i m : ℕ) → In m (list_at t i) → m ≡ 0
 literal_some t i m x = (list_small t i m x).1
 
 -- A TEST OF EVERY CODE, or of some, where it is known of codes alone
-get_in : (xs : List ℕ) (k d : ℕ) → k < length xs → In (get_or xs k d) xs
-get_in [] k d h = absurd (omega arith)
-get_in (x ∷ xs) zero d h = Memᴰ.head refl
-get_in (x ∷ xs) (suc k) d h = Memᴰ.tail (get_in xs k d (omega arith))
-
 module _ (p : ℕ → Bool) (t : List ℤ) (i : ℕ) where
   abbrev pub Gives : Bool → ℕ → Type 0
   Gives b x = x < 65536 → p x ≡ b
@@ -63,7 +59,7 @@ module _ (p : ℕ → Bool) (t : List ℤ) (i : ℕ) where
   codes = list_at t i
 
   small_at : (k d : ℕ) → k < length codes → get_or codes k d < 65536
-  small_at k d h = literal_small t i (get_or codes k d) (get_in codes k d h)
+  small_at k d h = literal_small t i (get_or codes k d) (get_or_in codes k d h)
 
   pub all_codes : (r : Bool) → MatchBool r (AllWithin (Gives true) codes 0 (length codes)) ((k : ℕ) × (k < length codes) × HoldsAt (Gives false) codes k)
       → r ≡ list_all p codes

@@ -2,12 +2,13 @@
 use mathlib.Core.Path.{◌≡◌, refl, ap, sym, ◌∙◌}
 use mathlib.Core.Bool.{Bool, true, false, cond, ◌||◌}
 use mathlib.Core.List.{List, [], ◌∷◌}
-use Prim.Native.Nat.{ℕ, zero, suc, ◌<◌, ◌≤◌}
+use Prim.Native.Nat.{ℕ, ◌<◌, ◌≤◌}
 use native.Mathlib.Omega.{arith}
 use lib.ListN.{length, get_or, set, length-set, replicate, length-replicate}
 use lib.Seq.{get_or-set_same, get_or-set_other}
 use lib.Dec.{eqb}
 use borrow.Author.Tests.{eqb-true, eqb-false}
+use Rattle.cells.proofs.Laws.{get_or_zeros}
 use Rattle.rules.specs.Basics.{is_in}
 use Rattle.copies.specs.Marks.{marks, stamp, Marking, Unmarked}
 
@@ -23,12 +24,6 @@ set_at s x v y h = go (eqb y x) refl
     go true e = ap (λ z. get_or (set s z v) y 0) (sym (eqb-true y x e)) ∙ get_or-set_same s y v 0 h
     go false e = get_or-set_other s x y v 0 (eqb-false y x e)
 
--- a zero that is written is there, and nothing but zero is past the end
-pub zero_there : (s : List ℕ) (i : ℕ) → get_or (set s i 0) i 0 ≡ 0
-zero_there [] i = refl
-zero_there (x ∷ s) zero = refl
-zero_there (x ∷ s) (suc i) = zero_there s i
-
 -- a value written for one test or another
 pub twice : (v k : ℕ) (b i : Bool) → cond i v (cond b v k) ≡ cond (b || i) v k
 twice v k true true = refl
@@ -41,11 +36,6 @@ marks_at [] s y h = refl
 marks_at (x ∷ ys) s y h =
     marks_at ys (set s x 1) y (omega (arith, length-set s x 1)) ∙ ap (cond (is_in ys y) 1) (set_at s x 1 y h)
     ∙ twice 1 (get_or s y 0) (eqb y x) (is_in ys y)
-
-pub get_or_zeros : (n y : ℕ) → get_or {A = ℕ} (replicate n 0) y 0 ≡ 0
-get_or_zeros zero y = refl
-get_or_zeros (suc n) zero = refl
-get_or_zeros (suc n) (suc y) = get_or_zeros n y
 
 -- an array of zeros has no mark
 pub zeros_long : 8194 ≤ length (replicate {A = ℕ} 8194 0)

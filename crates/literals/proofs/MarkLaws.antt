@@ -10,10 +10,11 @@ use lib.Seq.{get_or-set_same, get_or-set_other, set_out}
 use borrow.Author.Tests.{eqb-true, eqb-false, eq-eqb, ltb-true, ltb-false, not-true}
 use Rattle.lines.specs.Lists.{all}
 use Rattle.rules.specs.Basics.{is_in}
+use Rattle.cells.proofs.Laws.{zero_there}
 use Rattle.prefix.specs.Prefix.{is_existential}
 use Rattle.copies.specs.Marks.{marks, Marking, Unmarked}
 use Rattle.copies.specs.Copies.{image_of, images_of}
-use Rattle.copies.proofs.MarkLaws.{marks_length, set_at, twice, zero_there, unmarked_marking}
+use Rattle.copies.proofs.MarkLaws.{marks_length, set_at, twice, unmarked_marking}
 use Rattle.literals.specs.Literals.{in_clause, in_line, literals_fit}
 use Rattle.literals.specs.Marks.{is_marked, meets, stamped_by, answered, cleared}
 use Rattle.literals.proofs.Arms.{fit_no, fit_yes}

@@ -7,8 +7,9 @@ use Rattle.lines.specs.Lists.{any}
 use Rattle.rules.specs.Basics.{is_in}
 use Rattle.cells.specs.declared.Codes.{Codes}
 use Rattle.cells.specs.Codes.{codes_left, codes_table, codes_place}
-use Rattle.rules.proofs.Kit.{In}
-use Rattle.clauses.proofs.LiteralLaws.{literal_small, literal_some}
+use Rattle.clauses.proofs.LiteralLaws.{literal_small}
+use Rattle.resolvents.specs.declared.Strays.{Strays}
+use Rattle.resolvents.specs.declared.Strays.TheVariants.{None}
 use Rattle.resolvents.specs.Resolves.{resolves}
 use Rattle.resolvents.specs.Marks.{Clear, each, to, raise, lacks, in_all, covered, stray, pivot, candidates}
 use Rattle.resolvents.proofs.MarkLaws.{Small, lacks_d, lacks_e, in_all_three, covered_is, clear_again}
@@ -16,9 +17,6 @@ use Rattle.resolvents.proofs.DecisionLaws.{is_in_lem, decided_resolves}
 
 small : (k : Codes) → Small (codes_left k)
 small k y q = literal_small (codes_table k) (codes_place k) y (is_in_lem (codes_left k) y q)
-
-some : (k : Codes) (m : ℕ) → In m (codes_left k) → m ≡ 0 → ⊥
-some k = literal_some (codes_table k) (codes_place k)
 
 module _ (c d e : Codes) (s : List ℕ) where
   abbrev C : List ℕ
@@ -31,9 +29,9 @@ module _ (c d e : Codes) (s : List ℕ) where
   E = codes_left e
 
   -- the clause marked, the parents walked, a pivot looked for, the clause unmarked
-  module _ {s₁ s₂ s₃ u : List ℕ} {p q : ℕ} {a b : Bool}
-      (m₁ : s₁ ≡ each (to 1) C s) (f : p ≡ stray (lacks s₁) D 0) (m₂ : s₂ ≡ each (raise 2) D s₁)
-      (g : q ≡ stray (lacks s₂) E 0) (m₃ : s₃ ≡ each (raise 4) E s₂)
+  module _ {s₁ s₂ s₃ u : List ℕ} {p q : Strays} {a b : Bool}
+      (m₁ : s₁ ≡ each (to 1) C s) (f : p ≡ stray (lacks s₁) D None) (m₂ : s₂ ≡ each (raise 2) D s₁)
+      (g : q ≡ stray (lacks s₂) E None) (m₃ : s₃ ≡ each (raise 4) E s₂)
       (h : a ≡ any (pivot (in_all s₃) p q) (candidates p q C)) (k : b ≡ covered s₃ C) (v : u ≡ each (to 0) C s₃) (w : Clear s) where
     abbrev M₁ : List ℕ
     M₁ = each (to 1) C s
@@ -50,17 +48,17 @@ module _ (c d e : Codes) (s : List ℕ) where
     is₃ : s₃ ≡ M₃
     is₃ = m₃ ∙ ap (each (raise 4) E) is₂
 
-    abbrev P : ℕ
-    P = stray (λ y. not (is_in C y)) D 0
+    abbrev P : Strays
+    P = stray (λ y. not (is_in C y)) D None
 
-    abbrev Q : ℕ
-    Q = stray (λ y. not (is_in C y)) E 0
+    abbrev Q : Strays
+    Q = stray (λ y. not (is_in C y)) E None
 
     first : p ≡ P
-    first = f ∙ ap (λ (x : ℕ → Bool). stray x D 0) (ap lacks m₁ ∙ lacks_d C D E s w (small c) (small d) (small e))
+    first = f ∙ ap (λ (x : ℕ → Bool). stray x D None) (ap lacks m₁ ∙ lacks_d C D E s w (small c) (small d) (small e))
 
     second : q ≡ Q
-    second = g ∙ ap (λ (x : ℕ → Bool). stray x E 0) (ap lacks is₂ ∙ lacks_e C D E s w (small c) (small d) (small e))
+    second = g ∙ ap (λ (x : ℕ → Bool). stray x E None) (ap lacks is₂ ∙ lacks_e C D E s w (small c) (small d) (small e))
 
     found : a ≡ any (pivot (λ y. is_in C y && is_in D y && is_in E y) P Q) (candidates P Q C)
     found =
@@ -70,6 +68,6 @@ module _ (c d e : Codes) (s : List ℕ) where
     pub answered : ((b && a) ≡ resolves C D E) × Clear u
     answered = (
       ap₂ (λ x y. x && y) (k ∙ ap (λ x. covered x C) is₃ ∙ covered_is C D E s w (small c) (small d) (small e)) found
-          ∙ decided_resolves C D E (some c) (some d) (some e),
+          ∙ decided_resolves C D E,
       subst Clear (sym (v ∙ ap (each (to 0) C) is₃)) (clear_again C D E s w (small c) (small d) (small e)),
     )

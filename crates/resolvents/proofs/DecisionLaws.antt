@@ -3,7 +3,7 @@ use mathlib.Core.Path.{◌≡◌, refl, sym, ◌∙◌, ap}
 use mathlib.Core.Bool.{Bool, true, false, cond, not, ◌&&◌, ◌||◌, and-true, and-false, and_self, and_assoc, and_comm, or-true, or-false}
 use mathlib.Core.List.Memᴰ
 use mathlib.Core.List.{List, [], ◌∷◌}
-use Prim.Native.Nat.{ℕ}
+use Prim.Native.Nat.{ℕ, suc}
 use native.Mathlib.Omega.{arith}
 use lib.Dec.{eqb}
 use borrow.Author.Tests.{eqb-true, eqb-false, ne_eqb}
@@ -14,6 +14,8 @@ use Rattle.rules.proofs.Kit.{clear, and_l, and_r, and_i, or_l, or_r, or_cases, n
 use Rattle.rules.proofs.CodesLaw.{flip_twice}
 use Rattle.trail.proofs.TrailLaws.{flip_other}
 use Rattle.resolvents.specs.Resolves.{all_but, leaves, resolves_on, resolves}
+use Rattle.resolvents.specs.declared.Strays.{Strays}
+use Rattle.resolvents.specs.declared.Strays.TheVariants.{None, One, Several}
 use Rattle.resolvents.specs.Marks.{meet, stray, may_leave, pivot, candidates}
 
 -- MEMBERS
@@ -23,41 +25,33 @@ is_in_lem xs y h = let s = any_in (eqb y) xs h in Memᴰ.cast (eqb-true y s.0 s.
 pub in_is : (xs : List ℕ) (y : ℕ) → In y xs → is_in xs y ≡ true
 in_is xs y m = in_any (eqb y) m (eqb_self y)
 
--- no code is 0
-abbrev pub NoZero : List ℕ → Type 0
-NoZero ys = (y : ℕ) → In y ys → y ≡ 0 → ⊥
+-- THE STRAY CODES of a list, by a test: the codes that may be missing are all, if there is none, and else that one
+abbrev free : Strays → ℕ → Bool
+free None x = true
+free (One y) x = eqb y x
+free Several x = false
 
--- THE STRAY CODE of a list, by a test: the codes that may be missing are all, if there is none, and else that one
-abbrev free : ℕ → ℕ → Bool
-free r x = eqb r 0 || eqb r x
-
-module _ (p : ℕ → Bool) (x : ℕ) (proper : x ≡ 1 → ⊥) where
-  met_free : (t : Bool) (r y : ℕ) → (y ≡ 0 → ⊥) → (free r x && (eqb y x || t)) ≡ free (meet (not t) r y) x
+module _ (p : ℕ → Bool) (x : ℕ) where
+  met_free : (t : Bool) (r : Strays) (y : ℕ) → (free r x && (eqb y x || t)) ≡ free (meet (not t) r y) x
   unfolding meet
-  met_free true r y n = ap (λ t. free r x && t) (or-true (eqb y x)) ∙ and-true (free r x)
-  met_free false r y n = ap (λ t. free r x && t) (or-false (eqb y x)) ∙ go (eqb r 0) refl (eqb r y) refl
+  met_free true r y = ap (λ t. free r x && t) (or-true (eqb y x)) ∙ and-true (free r x)
+  met_free false None y = or-false (eqb y x)
+  met_free false (One z) y = ap (λ t. eqb z x && t) (or-false (eqb y x)) ∙ go (eqb z y) refl (eqb z x) refl (eqb y x) refl
     where
-      -- y is the stray code
-      this : eqb y x ≡ free y x
-      this = sym (ap (λ t. t || eqb y x) (ne_eqb y 0 n))
+      go : (s : Bool) → eqb z y ≡ s → (a : Bool) → eqb z x ≡ a → (b : Bool) → eqb y x ≡ b → (a && b) ≡ free (cond s (One z) Several) x
+      go true e a f b g = ap (λ t. a && t) (sym g ∙ ap (λ k. eqb k x) (sym (eqb-true z y e)) ∙ f) ∙ and_self a ∙ sym f
+      go false e true f true g = absurd (eqb-false z y e (eqb-true z x f ∙ sym (eqb-true y x g)))
+      go false e true f false g = refl
+      go false e false f b g = refl
+  met_free false Several y = refl
 
-      two : eqb r y ≡ false → (a b : Bool) → eqb r x ≡ a → eqb y x ≡ b → (a && b) ≡ eqb 1 x
-      two f true true g h = absurd (eqb-false r y f (eqb-true r x g ∙ sym (eqb-true y x h)))
-      two f true false g h = sym (ne_eqb 1 x λ q. proper (sym q))
-      two f false b g h = sym (ne_eqb 1 x λ q. proper (sym q))
-
-      go : (a : Bool) → eqb r 0 ≡ a → (b : Bool) → eqb r y ≡ b → ((a || eqb r x) && eqb y x) ≡ free (cond (a || b) y 1) x
-      go true e b f = this
-      go false e true f = ap (λ z. eqb z x && eqb y x) (eqb-true r y f) ∙ and_self (eqb y x) ∙ this
-      go false e false f = two f (eqb r x) (eqb y x) refl refl
-
-  stray_from : (ys : List ℕ) → NoZero ys → (r : ℕ) → (free r x && all_but p x ys) ≡ free (stray (λ y. not (p y)) ys r) x
+  stray_from : (ys : List ℕ) (r : Strays) → (free r x && all_but p x ys) ≡ free (stray (λ y. not (p y)) ys r) x
   unfolding stray all_but
-  stray_from [] n r = and-true (free r x)
-  stray_from (y ∷ ys) n r =
+  stray_from [] r = and-true (free r x)
+  stray_from (y ∷ ys) r =
       sym (and_assoc (free r x) (eqb y x || p y) (all_but p x ys))
-      ∙ ap (λ t. t && all_but p x ys) (met_free (p y) r y (n y (Memᴰ.head refl)))
-      ∙ stray_from ys (λ z m. n z (Memᴰ.tail m)) (meet (not (p y)) r y)
+      ∙ ap (λ t. t && all_but p x ys) (met_free (p y) r y)
+      ∙ stray_from ys (meet (not (p y)) r y)
 
 -- WHAT C HOLDS
 follows : (a b : Bool) → (a ≡ true → b ≡ true) → (not a || b) ≡ true
@@ -144,59 +138,60 @@ module _ (c d e : List ℕ) where
     leaves_all = same_test (all (leaves d e x) c) (wholly && x_left && y_left) left_over (λ h. in_all_lem (leaves d e x) c (over_left h))
 
 -- A PARENT ys, beside the other, zs: x may leave it
-module _ (c ys zs : List ℕ) (some : NoZero ys) where
-  abbrev missed : ℕ
-  missed = stray (λ y. not (is_in c y)) ys 0
+module _ (c ys zs : List ℕ) where
+  abbrev missed : Strays
+  missed = stray (λ y. not (is_in c y)) ys None
 
-  missing : (x : ℕ) → (x ≡ 1 → ⊥) → all_but (is_in c) x ys ≡ free missed x
-  missing x n = stray_from (is_in c) x n ys some 0
+  missing : (x : ℕ) → all_but (is_in c) x ys ≡ free missed x
+  missing x = stray_from (is_in c) x ys None
 
-  -- all the others are in c, so it is in the parent and not in c
-  others : (missed ≡ 0 → ⊥) → (missed ≡ 1 → ⊥) → ((y : ℕ) → In y ys → y ≡ missed → is_in c y ≡ true) → ⊥
+  -- what c holds of ys, but for another code
+  but_next : (x : ℕ) → all_but (is_in c) (suc x) ys ≡ true → is_in ys x ≡ true → is_in c x ≡ true
   unfolding all_but
-  others n k h = clear whole (missing 0 (λ q. omega arith) ∙ ap (λ t. t || t) (ne_eqb missed 0 n))
+  but_next x h i = either (λ q. absurd (let e = eqb-true x (suc x) q in omega arith)) (λ q. q)
+      (or_cases (eqb x (suc x)) (is_in c x) (all_in (λ y. eqb y (suc x) || is_in c y) h (is_in_lem ys x i)))
+
+  none_missing : missed ≡ None → (x : ℕ) → is_in ys x ≡ true → is_in c x ≡ true
+  none_missing z x h = but_next x (missing (suc x) ∙ ap (λ r. free r (suc x)) z) h
+
+  -- all codes but the stray one are in c, so it is in the parent and not in c
+  others : (x : ℕ) → missed ≡ One x → ((y : ℕ) → In y ys → y ≡ x → is_in c y ≡ true) → ⊥
+  unfolding all_but
+  others x z h = clear whole (missing (suc x) ∙ ap (λ r. free r (suc x)) z ∙ ne_eqb x (suc x) (λ e. omega arith))
     where
-      whole : all_but (is_in c) 0 ys ≡ true
-      whole = in_all_lem (λ y. eqb y 0 || is_in c y) ys λ y m. or_r (eqb y 0) (is_in c y)
-          (either (λ q. h y m (eqb-true y missed q)) (λ q. q)
-          (or_cases (eqb y missed) (is_in c y) (all_in (λ z. eqb z missed || is_in c z) (missing missed k ∙ or_r (eqb missed 0) (eqb missed missed) (eqb_self missed)) m)))
+      whole : all_but (is_in c) (suc x) ys ≡ true
+      whole = in_all_lem (λ y. eqb y (suc x) || is_in c y) ys λ y m. or_r (eqb y (suc x)) (is_in c y)
+          (either (λ q. h y m (eqb-true y x q)) (λ q. q)
+          (or_cases (eqb y x) (is_in c y) (all_in (λ w. eqb w x || is_in c w) (missing x ∙ ap (λ r. free r x) z ∙ eqb_self x) m)))
 
-  none_missing : missed ≡ 0 → (x : ℕ) → is_in ys x ≡ true → is_in c x ≡ true
-  unfolding all_but
-  none_missing z x h =
-      let m = is_in_lem ys x h in
-      either (λ q. absurd (some x m (eqb-true x 0 q))) (λ q. q)
-      (or_cases (eqb x 0) (is_in c x) (all_in (λ y. eqb y 0 || is_in c y) (missing 0 (λ q. omega arith) ∙ ap (λ t. eqb t 0 || eqb t 0) z) m))
-
-  leaves_parent : (shared : ℕ → Bool) (x : ℕ) → shared x ≡ (is_in c x && is_in ys x && is_in zs x) → (x ≡ 1 → ⊥)
+  leaves_parent : (shared : ℕ → Bool) (x : ℕ) → shared x ≡ (is_in c x && is_in ys x && is_in zs x)
       → (is_in ys x && all_but (is_in c) x ys && (not (is_in c x) || is_in zs x)) ≡ may_leave shared missed x
   unfolding may_leave
-  leaves_parent shared x s k = ap (λ t. is_in ys x && t && (not (is_in c x) || is_in zs x)) (missing x k) ∙ go (eqb missed 0) refl (eqb missed x) refl
+  leaves_parent shared x s = ap (λ t. is_in ys x && t && (not (is_in c x) || is_in zs x)) (missing x) ∙ go missed refl
     where
-      at_zero : (i j l : Bool) → (j ≡ true → i ≡ true) → (j && true && (not i || l)) ≡ (i && j && l)
-      at_zero true true l h = refl
-      at_zero true false l h = refl
-      at_zero false true l h = absurd (clear (h refl) refl)
-      at_zero false false l h = refl
-
-      is_there : eqb missed 0 ≡ false → missed ≡ x → is_in ys x ≡ true
-      is_there e q = by_no (is_in ys x) λ f.
-          others (eqb-false missed 0 e) (λ z. k (sym q ∙ z)) (λ y m g. absurd (clear (in_is ys x (Memᴰ.cast (sym (g ∙ q)) m)) f))
-
-      is_out : eqb missed 0 ≡ false → missed ≡ x → is_in c x ≡ false
-      is_out e q = by_yes (is_in c x) λ f. others (eqb-false missed 0 e) (λ z. k (sym q ∙ z)) (λ y m g. ap (is_in c) (g ∙ q) ∙ f)
+      at_none : (i j l : Bool) → (j ≡ true → i ≡ true) → (j && true && (not i || l)) ≡ (i && j && l)
+      at_none true true l h = refl
+      at_none true false l h = refl
+      at_none false true l h = absurd (clear (h refl) refl)
+      at_none false false l h = refl
 
       there : (i j l : Bool) → i ≡ false → j ≡ true → (j && true && (not i || l)) ≡ true
       there true j l p q = absurd (clear refl p)
       there false true l p q = refl
       there false false l p q = q
 
-      go : (a : Bool) → eqb missed 0 ≡ a → (b : Bool) → eqb missed x ≡ b
-          → (is_in ys x && (a || b) && (not (is_in c x) || is_in zs x)) ≡ cond a (shared x) b
-      go true e b f = at_zero (is_in c x) (is_in ys x) (is_in zs x) (none_missing (eqb-true missed 0 e) x) ∙ sym s
-      go false e true f =
-          let q = eqb-true missed x f in there (is_in c x) (is_in ys x) (is_in zs x) (is_out e q) (is_there e q)
-      go false e false f = ap (λ t. t && (not (is_in c x) || is_in zs x)) (and-false (is_in ys x))
+      at_one : (y : ℕ) → missed ≡ One y → (b : Bool) → eqb y x ≡ b → (is_in ys x && b && (not (is_in c x) || is_in zs x)) ≡ b
+      at_one y z true f =
+          let q : y ≡ x = eqb-true y x f in
+          there (is_in c x) (is_in ys x) (is_in zs x)
+          (by_yes (is_in c x) λ g. others y z (λ w m e. ap (is_in c) (e ∙ q) ∙ g))
+          (by_no (is_in ys x) λ g. others y z (λ w m e. absurd (clear (in_is ys x (Memᴰ.cast (sym (e ∙ q)) m)) g)))
+      at_one y z false f = ap (λ t. t && (not (is_in c x) || is_in zs x)) (and-false (is_in ys x))
+
+      go : (r : Strays) → missed ≡ r → (is_in ys x && free r x && (not (is_in c x) || is_in zs x)) ≡ may_leave shared r x
+      go None z = at_none (is_in c x) (is_in ys x) (is_in zs x) (none_missing z x) ∙ sym s
+      go (One y) z = at_one y z (eqb y x) refl
+      go Several z = ap (λ t. t && (not (is_in c x) || is_in zs x)) (and-false (is_in ys x))
 
 -- THE WHOLE TEST
 sorted : (i a f g v x y : Bool) → (i && (a && f && g && (v && x && y))) ≡ (v && ((i && f && x) && (a && g && y)))
@@ -214,55 +209,39 @@ sorted true false f g false x y = refl
 sorted false a f g true x y = refl
 sorted false a f g false x y = refl
 
-flip_one : flip 1 ≡ 0
-unfolding flip
-flip_one = refl
-
 swapped : (a b c : Bool) → (a && b && c) ≡ (a && c && b)
 swapped a b c = and_assoc a b c ∙ ap (λ t. a && t) (and_comm b c) ∙ sym (and_assoc a c b)
 
-module _ (c d e : List ℕ) (some-c : NoZero c) (some-d : NoZero d) (some-e : NoZero e) where
-  abbrev p : ℕ
-  p = stray (λ y. not (is_in c y)) d 0
+module _ (c d e : List ℕ) where
+  abbrev p : Strays
+  p = stray (λ y. not (is_in c y)) d None
 
-  abbrev q : ℕ
-  q = stray (λ y. not (is_in c y)) e 0
+  abbrev q : Strays
+  q = stray (λ y. not (is_in c y)) e None
 
   abbrev shared : ℕ → Bool
   shared y = is_in c y && is_in d y && is_in e y
 
-  on_is : (x : ℕ) → (x ≡ 0 → ⊥) → (flip x ≡ 0 → ⊥) → (is_in d x && resolves_on c d e x) ≡ (wholly c d e && pivot shared p q x)
+  on_is : (x : ℕ) → (is_in d x && resolves_on c d e x) ≡ (wholly c d e && pivot shared p q x)
   unfolding resolves_on pivot
-  on_is x n k =
-      let A = leaves_parent c d e some-d shared x refl (λ z. k (ap flip z ∙ flip_one)) in
-      let B = leaves_parent c e d some-e shared (flip x) (swapped (is_in c (flip x)) (is_in d (flip x)) (is_in e (flip x)))
-      (λ z. n (sym (flip_twice x) ∙ ap flip z ∙ flip_one)) in
+  on_is x =
+      let A = leaves_parent c d e shared x refl in
+      let B = leaves_parent c e d shared (flip x) (swapped (is_in c (flip x)) (is_in d (flip x)) (is_in e (flip x))) in
       let L = leaves_all c d e x in
       let S = sorted (is_in d x) (is_in e (flip x)) (all_but (is_in c) x d) (all_but (is_in c) (flip x) e) (wholly c d e)
       (not (is_in c x) || is_in e x) (not (is_in c (flip x)) || is_in d (flip x)) in
       cc
 
-  shared_in : (x : ℕ) → shared x ≡ true → In x c
-  shared_in x h = is_in_lem c x (and_l (is_in c x) (is_in d x) (and_l (is_in c x && is_in d x) (is_in e x) h))
-
-  -- no code that may leave is 0
-  leaves_some : (r x : ℕ) → may_leave shared r x ≡ true → x ≡ 0 → ⊥
-  unfolding may_leave
-  leaves_some r x h z = go (eqb r 0) refl h
-    where
-      go : (a : Bool) → eqb r 0 ≡ a → cond a (shared x) (eqb r x) ≡ true → ⊥
-      go true f g = some-c x (shared_in x g) z
-      go false f g = eqb-false r 0 f (eqb-true r x g ∙ z)
-
   candidate : (x : ℕ) → may_leave shared p x ≡ true → may_leave shared q (flip x) ≡ true → In x (candidates p q c)
   unfolding may_leave candidates
-  candidate x f g = go (eqb p 0) f (eqb q 0) g
+  candidate x = go p q
     where
-      go : (a : Bool) → cond a (shared x) (eqb p x) ≡ true → (b : Bool) → cond b (shared (flip x)) (eqb q (flip x)) ≡ true
-          → In x (cond a (cond b c (flip q ∷ [])) (p ∷ []))
-      go true f true g = shared_in x f
-      go true f false g = Memᴰ.head (sym (ap flip (eqb-true q (flip x) g) ∙ flip_twice x))
-      go false f b g = Memᴰ.head (sym (eqb-true p x f))
+      go : (r s : Strays) → may_leave shared r x ≡ true → may_leave shared s (flip x) ≡ true → In x (candidates r s c)
+      go None None f g = is_in_lem c x (and_l (is_in c x) (is_in d x) (and_l (is_in c x && is_in d x) (is_in e x) f))
+      go None (One y) f g = Memᴰ.head (sym (ap flip (eqb-true y (flip x) g) ∙ flip_twice x))
+      go None Several f g = absurd (clear g refl)
+      go (One y) s f g = Memᴰ.head (sym (eqb-true y x f))
+      go Several s f g = absurd (clear f refl)
 
   abbrev pub found : Bool
   found = any (pivot shared p q) (candidates p q c)
@@ -275,24 +254,14 @@ module _ (c d e : List ℕ) (some-c : NoZero c) (some-d : NoZero d) (some-e : No
       there h =
           let s = any_in (pivot shared p q) (candidates p q c) (and_r (wholly c d e) found h) in
           let x = s.0 in
-          let n = leaves_some p x (and_l (may_leave shared p x) (may_leave shared q (flip x)) s.2) in
-          let k = leaves_some q (flip x) (and_r (may_leave shared p x) (may_leave shared q (flip x)) s.2) in
-          let o = on_is x n k
-          ∙ and_i (wholly c d e) (pivot shared p q x) (and_l (wholly c d e) found h) s.2 in
+          let o = on_is x ∙ and_i (wholly c d e) (pivot shared p q x) (and_l (wholly c d e) found h) s.2 in
           in_any (resolves_on c d e) (is_in_lem d x (and_l (is_in d x) (resolves_on c d e x) o)) (and_r (is_in d x) (resolves_on c d e x) o)
-
-      flipped : (x : ℕ) → resolves_on c d e x ≡ true → is_in e (flip x) ≡ true
-      flipped x h =
-          let a = is_in e (flip x) && all_but (is_in c) x d in
-          and_l (is_in e (flip x)) (all_but (is_in c) x d)
-          (and_l a (all_but (is_in c) (flip x) e) (and_l (a && all_but (is_in c) (flip x) e) (all (leaves d e x) c) h))
 
       back : any (resolves_on c d e) d ≡ true → (wholly c d e && found) ≡ true
       back h =
           let s = any_in (resolves_on c d e) d h in
           let x = s.0 in
-          let o = sym (on_is x (some-d x s.1) (some-e (flip x) (is_in_lem e (flip x) (flipped x s.2))))
-          ∙ and_i (is_in d x) (resolves_on c d e x) (in_is d x s.1) s.2 in
+          let o = sym (on_is x) ∙ and_i (is_in d x) (resolves_on c d e x) (in_is d x s.1) s.2 in
           let v = and_r (wholly c d e) (pivot shared p q x) o in
           and_i (wholly c d e) found (and_l (wholly c d e) (pivot shared p q x) o)
           (in_any (pivot shared p q)

@@ -2,12 +2,13 @@
 use mathlib.Core.Path.{◌≡◌, refl, sym, ◌∙◌, ap, fun_ext}
 use mathlib.Core.Bool.{Bool, true, false, cond, not, ◌&&◌, ◌||◌, false≢true}
 use mathlib.Core.List.{List, [], ◌∷◌}
-use Prim.Native.Nat.{ℕ, zero, suc, ◌+◌, ◌<◌}
+use Prim.Native.Nat.{ℕ, ◌+◌, ◌<◌}
 use native.Mathlib.Omega.{arith}
 use lib.Dec.{eqb, leb}
 use lib.ListN.{length, get_or, set, replicate, length-set, length-replicate}
 use lib.Seq.{get_or-set_same, get_or-set_other}
 use borrow.Author.Tests.{eqb-true, eqb-false, le-leb}
+use Rattle.cells.proofs.Laws.{get_or_zeros}
 use Rattle.lines.specs.Lists.{all}
 use Rattle.rules.specs.Basics.{is_in}
 use Rattle.rules.proofs.Kit.{or_l, or_r, same_test, all_in, in_all_lem}
@@ -51,13 +52,8 @@ raise_twice b v = go (eqb v 0 || leb b v) refl
     go false e = ap (λ x. cond x (v + b) (v + b + b)) (or_r (eqb (v + b) 0) (leb b (v + b)) (le-leb b (v + b) (omega arith)))
 
 -- a new array is clear
-zeros : (n y : ℕ) → get_or {A = ℕ} (replicate n 0) y 0 ≡ 0
-zeros zero y = refl
-zeros (suc n) zero = refl
-zeros (suc n) (suc y) = zeros n y
-
 pub clear_start : Clear (replicate 65536 0)
-clear_start = record { long = length-replicate {A = ℕ} 65536 0; none = zeros 65536 }
+clear_start = record { long = length-replicate {A = ℕ} 65536 0; none = get_or_zeros 65536 }
 
 -- THE CLAUSE MARKED, with the signs of its parents: the marks tell them apart
 abbrev one : Bool → ℕ

@@ -13,6 +13,7 @@ use Rattle.rules.proofs.Kit.{and_l, and_r, and_i, or_l, or_r, or_cases, either, 
 use Rattle.rules.proofs.CodesLaw.{code_lit, code_negate, same_code, holds_code}
 use Rattle.ferp_rules.specs.Resolvent.{resolvent_on, resolvent}
 use Rattle.ferp_rules.proofs.ResolventLaws.{OnSome, resolvent_exists}
+use Rattle.clauses.proofs.MemberLaws.{any_map}
 use Rattle.resolvents.specs.Resolves.{all_but, leaves, resolves_on, resolves}
 
 -- LISTS
@@ -20,10 +21,6 @@ module _ {A B : Type 0} (g : A → B) (p : B → Bool) where
   all_map : (xs : List A) → all p (map g xs) ≡ all (λ x. p (g x)) xs
   all_map [] = refl
   all_map (x ∷ xs) = ap (λ t. p (g x) && t) (all_map xs)
-
-  any_map : (xs : List A) → any p (map g xs) ≡ any (λ x. p (g x)) xs
-  any_map [] = refl
-  any_map (x ∷ xs) = ap (λ t. p (g x) || t) (any_map xs)
 
 module _ {A : Type 0} where
   all_same : {p q : A → Bool} → ((x : A) → p x ≡ q x) → (xs : List A) → all p xs ≡ all q xs

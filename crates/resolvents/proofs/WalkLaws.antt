@@ -1,24 +1,19 @@
 -- Laws of walks along a clause, at its end and at a code, and of the answers on the way. Assumes nothing.
 use mathlib.Core.Path.{◌≡◌, refl, sym, ◌∙◌, ap, fun_ext}
-use mathlib.Core.Bool.{Bool, true, false, cond, not, ◌&&◌, ◌||◌, and-true, or-false}
+use mathlib.Core.Bool.{Bool, true, false, cond, not, ◌&&◌, ◌||◌, and-true}
 use mathlib.Core.List.{List, [], ◌∷◌}
-use Prim.Native.Nat.{ℕ, zero, suc, ◌+◌, ◌<◌}
+use Prim.Native.Nat.{ℕ, zero, suc, ◌+◌}
 use native.Mathlib.Omega.{arith}
 use lib.Dec.{eqb, leb}
 use lib.ListN.{get_or, set}
 use lib.Seq.{get_or-set_other}
-use borrow.Author.Tests.{eqb-true, eqb-false, eq-eqb, ne_eqb}
-use Rattle.lines.specs.Lists.{all, any}
-use Rattle.rules.specs.Codes.{flip}
-use Rattle.trail.proofs.TrailLaws.{flip_small}
-use Rattle.resolvents.specs.Marks.{each, raise, lacks, covered, meet, stray, pivot, candidates}
+use borrow.Author.Tests.{eqb-true, eqb-false, ne_eqb}
+use Rattle.lines.specs.Lists.{all}
+use Rattle.cells.proofs.Laws.{zero_there, first_code}
+use Rattle.resolvents.specs.declared.Strays.{Strays}
+use Rattle.resolvents.specs.Marks.{each, raise, lacks, covered, meet, stray}
 
 -- ONE MARK CHANGED
-zero_there : (s : List ℕ) (i : ℕ) → get_or (set s i 0) i 0 ≡ 0
-zero_there [] i = refl
-zero_there (x ∷ s) zero = refl
-zero_there (x ∷ s) (suc i) = zero_there s i
-
 raise_there : (b : ℕ) (s : List ℕ) (i : ℕ) → get_or (set s i (raise b (get_or s i 0))) i 0 ≡ raise b (get_or s i 0)
 unfolding raise
 raise_there b [] i = refl
@@ -65,12 +60,9 @@ module _ (rest : List ℕ) where
     unfolding covered
     covered_end a s = ap (λ x. a && covered s x) e ∙ and-true a
 
-    pub stray_end : (out : ℕ → Bool) (p : ℕ) → stray out rest p ≡ p
+    pub stray_end : (out : ℕ → Bool) (p : Strays) → stray out rest p ≡ p
     unfolding stray
     stray_end out p = ap (λ x. stray out x p) e
-
-    pub any_end : (p : ℕ → Bool) → any p rest ≡ false
-    any_end p = ap (any p) e
 
   module _ (y : ℕ) (rest' : List ℕ) (e : rest ≡ y ∷ rest') where
     -- where the code's index is i
@@ -89,50 +81,11 @@ module _ (rest : List ℕ) where
           go true false h = refl
           go false t h = refl
 
-      pub stray_more : (b v p r : ℕ) → v ≡ raise b (get_or s i 0) → r ≡ meet (eqb (get_or s i 0) 0) p y → stray (lacks (set s i v)) rest' r ≡ stray (lacks s) rest p
+      pub stray_more : (b v : ℕ) (p r : Strays) → v ≡ raise b (get_or s i 0) → r ≡ meet (eqb (get_or s i 0) 0) p y → stray (lacks (set s i v)) rest' r ≡ stray (lacks s) rest p
       unfolding stray lacks
       stray_more b v p r h k =
           ap (λ w. stray (lacks (set s i w)) rest' r) h ∙ ap (λ (t : ℕ → Bool). stray t rest' r) (lacks_kept b s i) ∙ ap (stray (lacks s) rest') k
           ∙ ap (λ n. stray (lacks s) rest' (meet (eqb (get_or s n 0) 0) p y)) q ∙ sym (ap (λ x. stray (lacks s) x p) e)
 
-    module _ (p : ℕ → Bool) (b : Bool) (q : b ≡ p y) where
-      pub any_here : b ≡ true → any p rest ≡ true
-      any_here h = ap (any p) e ∙ ap (λ t. t || any p rest') (sym q ∙ h)
-
-      pub any_later : b ≡ false → any p rest ≡ any p rest'
-      any_later h = ap (any p) e ∙ ap (λ t. t || any p rest') (sym q ∙ h)
-
-pub met_small : (t : Bool) (p y r : ℕ) → r ≡ meet t p y → p < 65536 → y < 65536 → r < 65536
-unfolding meet
-met_small t p y r e h k = go t (eqb p 0 || eqb p y) e
-  where
-    go : (t u : Bool) → r ≡ cond t (cond u y 1) p → r < 65536
-    go true true q = omega arith
-    go true false q = omega arith
-    go false u q = omega arith
-
-pub flip_within : (x y : ℕ) → y ≡ flip x → x < 65536 → y < 65536
-flip_within x y e h = omega (arith, flip_small x h, e)
-
--- THE CANDIDATES
-pub by_clause : (p q : ℕ) (c : List ℕ) → p ≡ 0 → q ≡ 0 → candidates p q c ≡ c
-unfolding candidates
-by_clause p q c z h =
-    ap (λ t. cond t (cond (eqb q 0) c (flip q ∷ [])) (p ∷ [])) (eq-eqb p 0 z) ∙ ap (λ t. cond t c (flip q ∷ [])) (eq-eqb q 0 h)
-
-module _ (shared : ℕ → Bool) (p q : ℕ) where
-  abbrev Found : Bool → List ℕ → Type 0
-  Found r c = r ≡ any (pivot shared p q) (candidates p q c)
-
-  pub by_first : (c : List ℕ) (r : Bool) → (p ≡ 0 → ⊥) → r ≡ pivot shared p q p → Found r c
-  unfolding candidates
-  by_first c r n h =
-      h ∙ sym (or-false (pivot shared p q p))
-      ∙ ap (λ t. any (pivot shared p q) (cond t (cond (eqb q 0) c (flip q ∷ [])) (p ∷ []))) (sym (ne_eqb p 0 n))
-
-  pub by_second : (c : List ℕ) (x : ℕ) (r : Bool) → p ≡ 0 → (q ≡ 0 → ⊥) → x ≡ flip q → r ≡ pivot shared p q x → Found r c
-  unfolding candidates
-  by_second c x r z n e h =
-      h ∙ ap (pivot shared p q) e ∙ sym (or-false (pivot shared p q (flip q)))
-      ∙ ap (λ t. any (pivot shared p q) (cond t c (flip q ∷ []))) (sym (ne_eqb q 0 n))
-      ∙ ap (λ t. any (pivot shared p q) (cond t (cond (eqb q 0) c (flip q ∷ [])) (p ∷ []))) (sym (eq-eqb p 0 z))
+-- the end of a walk and a code more
+pub ruleset walks = (each_end, each_more, covered_end, covered_more, stray_end, stray_more, first_code)

@@ -1,7 +1,9 @@
 -- The marks, and the test over them. Assumes nothing.
-use Rattle.std.specs.Prelude.{◌≡◌, Bool, not, cond, ◌&&◌, ◌||◌, List, [], ◌∷◌, ℕ, ◌+◌, eqb, leb, length, get_or, set}
+use Rattle.std.specs.Prelude.{◌≡◌, Bool, true, false, not, cond, ◌&&◌, ◌||◌, List, [], ◌∷◌, ℕ, ◌+◌, eqb, leb, length, get_or, set}
 use Rattle.lines.specs.Lists.{all}
 use Rattle.rules.specs.Codes.{flip}
+use Rattle.resolvents.specs.declared.Strays.{Strays}
+use Rattle.resolvents.specs.declared.Strays.TheVariants.{None, One, Several}
 
 -- no code is marked, in an array with a place for every code
 pub record Clear (s : List ℕ) : Type 0 where
@@ -31,23 +33,32 @@ in_all s y = eqb (get_or s y 0) 7
 unfoldable pub covered : List ℕ → List ℕ → Bool
 covered s ys = all (λ y. not (eqb (get_or s y 0) 1)) ys
 
--- THE STRAY CODE of a list, the only one that the test picks, after p: 0 if there is none, 1 if there are several
-unfoldable pub meet : Bool → ℕ → ℕ → ℕ
-meet t p y = cond t (cond (eqb p 0 || eqb p y) y 1) p
+-- THE STRAY CODES of a list, those that the test picks, after p: none, one, or several
+unfoldable pub meet : Bool → Strays → ℕ → Strays
+meet false p y = p
+meet true None y = One y
+meet true (One x) y = cond (eqb x y) (One x) Several
+meet true Several y = Several
 
-unfoldable pub stray : (ℕ → Bool) → List ℕ → ℕ → ℕ
+unfoldable pub stray : (ℕ → Bool) → List ℕ → Strays → Strays
 stray out [] p = p
 stray out (y ∷ ys) p = stray out ys (meet (out y) p y)
 
 -- THE PIVOT, where p and q are the parents' stray codes
 module _ (shared : ℕ → Bool) where
-  -- x may leave a parent with the stray code p: it is p, or, where there is none, all three clauses hold it
-  unfoldable pub may_leave : ℕ → ℕ → Bool
-  may_leave p x = cond (eqb p 0) (shared x) (eqb p x)
+  -- x may leave a parent with the stray codes p: it is the only one, or, where there is none, all three clauses hold it
+  unfoldable pub may_leave : Strays → ℕ → Bool
+  may_leave None x = shared x
+  may_leave (One y) x = eqb y x
+  may_leave Several x = false
 
-  unfoldable pub pivot : ℕ → ℕ → ℕ → Bool
+  unfoldable pub pivot : Strays → Strays → ℕ → Bool
   pivot p q x = may_leave p x && may_leave q (flip x)
 
 -- the codes among which it is: a stray code tells it, else c holds it
-unfoldable pub candidates : ℕ → ℕ → List ℕ → List ℕ
-candidates p q c = cond (eqb p 0) (cond (eqb q 0) c (flip q ∷ [])) (p ∷ [])
+unfoldable pub candidates : Strays → Strays → List ℕ → List ℕ
+candidates None None c = c
+candidates None (One y) c = flip y ∷ []
+candidates None Several c = []
+candidates (One x) q c = x ∷ []
+candidates Several q c = []

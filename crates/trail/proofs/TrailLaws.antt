@@ -9,6 +9,7 @@ use lib.Dec.{eqb}
 use lib.ListN.{length, get_or, set, replicate, length-set, length-replicate}
 use lib.Seq.{get_or-set_same, get_or-set_other}
 use borrow.Author.Tests.{eqb-true, eqb-false, eq-eqb, ne_eqb}
+use Rattle.cells.proofs.Laws.{zero_there, get_or_zeros}
 use Rattle.rules.specs.Codes.{flip}
 use Rattle.rules.proofs.CodesLaw.{flip_twice}
 use Rattle.rules.proofs.Kit.{clear, either}
@@ -160,11 +161,6 @@ module _ (f t : List ℕ) (n l : ℕ) (r : Trailed f t n) (small : l < 65536) wh
   assumed_fewer f' t' n' (inr a) k q = off_set f l k (ap (λ (x : List ℕ). off x k) (sym a.2) ∙ q)
 
 -- TAKING BACK
-zero_there : (f : List ℕ) (i : ℕ) → get_or (set f i 0) i 0 ≡ 0
-zero_there [] i = refl
-zero_there (x ∷ f) zero = refl
-zero_there (x ∷ f) (suc i) = zero_there f i
-
 off_unset : (f : List ℕ) (i l : ℕ) → off (set f i 0) l ≡ true → (l ≡ i → ⊥) × (off f l ≡ true)
 off_unset f i l q = go (eqb l i) refl
   where
@@ -203,17 +199,12 @@ unfolding zeros
 zeros_all zero = omega arith
 zeros_all (suc n) = let h = zeros_all n in omega arith
 
-nothing_there : (n k : ℕ) → ◌≡◌ {A = ℕ} (get_or (replicate n 0) k 0) 0
-nothing_there zero k = refl
-nothing_there (suc n) zero = refl
-nothing_there (suc n) (suc k) = nothing_there n k
-
 -- at the start, with no literal false
 pub ready_start : (t : List ℕ) → length t ≡ 65536 → Ready (replicate 65536 0) t 0
 ready_start t h = ready_empty (replicate 65536 0) t record {
   shape = record { long = length-replicate {A = ℕ} 65536 0; room = omega (arith, zeros_all 65536) };
   long = h;
-  listed = λ l e. absurd (clear e (off_no (replicate 65536 0) l (nothing_there 65536 l)));
+  listed = λ l e. absurd (clear e (off_no (replicate 65536 0) l (get_or_zeros 65536 l)));
 }
 
 -- cut back to nothing

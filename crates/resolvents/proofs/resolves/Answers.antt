@@ -1,9 +1,6 @@
 use Rattle.resolvents.proofs.AnswerLaws.{answered}
 use Rattle.resolvents.proofs.resolves.Goals as goal
 
-pub has_pivot-found-requires : goal.has_pivot-found-requires
-has_pivot-found-requires c = (c.stray-p.ensures.1, c.stray-q.ensures.1)
-
 pub returns : goal.returns
-returns c = answered c.args.c c.args.d c.args.e _ c.mark.ensures c.stray-p.ensures.0 c.stray-p.ensures.2 c.stray-q.ensures.0 c.stray-q.ensures.2
+returns c = answered c.args.c c.args.d c.args.e _ c.mark.ensures c.stray-p.ensures.0 c.stray-p.ensures.1 c.stray-q.ensures.0 c.stray-q.ensures.1
     c.has_pivot-found.ensures c.unmark.ensures.0 c.unmark.ensures.1
