@@ -38,6 +38,13 @@ module _ (p : ℕ → Bool) where
     unfolding run
     run_stop h e = rw (here bs i h, e)
 
+    -- the run is at its end
+    pub none_past : length bs ≤ i → i ≡ i + run p (drop i bs)
+    none_past h = omega (arith, run_past h)
+
+    pub none_here : i < length bs → p (get_or bs i 0) ≡ false → i ≡ i + run p (drop i bs)
+    none_here h e = omega (arith, run_stop h e)
+
     pub run_go : i < length bs → p (get_or bs i 0) ≡ true → run p (drop i bs) ≡ suc (run p (drop (i + 1) bs))
     unfolding run
     run_go h e = rw (here bs i h, e)

@@ -9,10 +9,11 @@ use lib.ListN.{length, take, drop, get_or, get_or-eq_default}
 use lib.Dec.{eqb, leb, ltb}
 use borrow.Author.Tests.{eqb-true, eqb-false, ne_eqb, leb-true, leb-false, ltb-true}
 use Rattle.std.specs.Prelude.{Option, None, Some}
+use Rattle.std.specs.Bool.{then_some}
 use Rattle.lines.specs.Bytes.{class_of, rank, is_blank, is_digit, is_minus}
 use Rattle.lines.specs.declared.Class.TheVariants.{Minus}
 use Rattle.lines.specs.declared.Run.TheVariants.{Word}
-use Rattle.lines.specs.Scan.{cap, passes, run, digits_in, number_in, start_at, literal_at}
+use Rattle.lines.specs.Scan.{cap, passes, run, digits_in, number_in, literal_at}
 use Rattle.lines.proofs.Here.{here, pair_of}
 use Rattle.lines.proofs.Classes.{and_true, held_not}
 use Rattle.lines.proofs.Runs.{run_past, run_stop, run_go, starts}
@@ -44,6 +45,10 @@ Says bs at r = (x e : ℕ) → r ≡ Some (x, e) → literal_at bs at ≡ Some (
 pub says_nothing : (bs : List ℕ) (at : ℕ) → Says bs at None
 says_nothing bs at x e q = absurd (let z : ◌≡◌ {A = ℕ} 0 1 = cc in omega arith)
 
+sign_small : (t : Bool) {g : ℕ} → g ≡ cond t 1 0 → g ≤ 1
+sign_small true m = omega arith
+sign_small false m = omega arith
+
 -- another digit can follow
 pub can_grow : (v : ℕ) → ltb 0 v && ltb v 10000000 ≡ true → (0 < v) × (v < 10000000)
 can_grow v e = let k = and_true (ltb 0 v) (ltb v 10000000) e in (ltb-true 0 v k.0, ltb-true v 10000000 k.1)
@@ -57,8 +62,12 @@ module _ (bs : List ℕ) where
       go true e = sym (ap (λ n. eqb n 0) (run_stop (passes Word) bs i h (ap not e)))
       go false e = let r = run_go (passes Word) bs i h (ap not e) in sym (ne_eqb (run (passes Word) (drop i bs)) 0 (λ q. omega arith))
 
-  pub ends_past : (i : ℕ) → length bs ≤ i → true ≡ eqb (run (passes Word) (drop i bs)) 0
+  ends_past : (i : ℕ) → length bs ≤ i → true ≡ eqb (run (passes Word) (drop i bs)) 0
   ends_past i h = sym (ap (λ n. eqb n 0) (run_past (passes Word) bs i h))
+
+  pub ends_told : (i : ℕ) {t : Bool} → ((i < length bs) × (t ≡ is_blank (get_or bs i 0))) ⊎ ((length bs ≤ i) × (t ≡ true)) → t ≡ eqb (run (passes Word) (drop i bs)) 0
+  ends_told i (inl k) = k.1 ∙ ends_at i k.0
+  ends_told i (inr k) = k.1 ∙ ends_past i k.0
 
   word_digit : (i : ℕ) → i < length bs → is_digit (get_or bs i 0) ≡ true → word_from bs i ≡ get_or bs i 0 ∷ word_from bs (i + 1)
   unfolding word_from
@@ -145,14 +154,13 @@ module _ (bs : List ℕ) where
       go true l = absurd (number_long from k (run_past (passes Word) bs from (leb-true (length bs) from l)))
       go false l = leb-false (length bs) from l
 
-  -- a blank is skipped
-  pub blank_skipped : (at : ℕ) → at < length bs → is_blank (get_or bs at 0) ≡ true → start_at bs (at + 1) ≡ start_at bs at
-  unfolding start_at
-  blank_skipped at h e = omega (arith, run_go is_blank bs at h e)
-
   -- past the end there is no minus
-  pub no_minus : (s : ℕ) → length bs ≤ s → ◌≡◌ {A = ℕ} 0 (cond (is_minus (get_or bs s 0)) 1 0)
-  no_minus s h = sym (ap (λ t. cond t 1 0) (held_not Minus (get_or bs s 0) (λ q. omega (arith, get_or-eq_default bs 0 h))))
+  no_minus : (s : ℕ) → length bs ≤ s → is_minus (get_or bs s 0) ≡ false
+  no_minus s h = held_not Minus (get_or bs s 0) (λ q. omega (arith, get_or-eq_default bs 0 h))
+
+  pub minus_told : (s : ℕ) {t : Bool} → ((s < length bs) × (t ≡ is_minus (get_or bs s 0))) ⊎ ((length bs ≤ s) × (t ≡ false)) → t ≡ is_minus (get_or bs s 0)
+  minus_told s (inl k) = k.1
+  minus_told s (inr k) = k.1 ∙ sym (no_minus s k.0)
 
   -- a token that may start at s; g is its sign
   module _ (s : ℕ) {g : ℕ} (m : g ≡ cond (is_minus (get_or bs s 0)) 1 0) where
@@ -160,35 +168,13 @@ module _ (bs : List ℕ) where
     pub sign_fits : {n : ℕ} → length bs ≤ n → s ≤ n → s + g ≤ n
     sign_fits {n} l k = go (leb (length bs) s) refl
       where
-        small : (t : Bool) → g ≡ cond t 1 0 → g ≤ 1
-        small true q = omega arith
-        small false q = omega arith
-
         go : (t : Bool) → leb (length bs) s ≡ t → s + g ≤ n
-        go true h = omega (arith, no_minus s (leb-true (length bs) s h))
-        go false h = omega (arith, leb-false (length bs) s h, small (is_minus (get_or bs s 0)) m)
+        go true h = let z = m ∙ ap (λ t. cond t 1 0) (no_minus s (leb-true (length bs) s h)) in omega arith
+        go false h = omega (arith, leb-false (length bs) s h, sign_small (is_minus (get_or bs s 0)) m)
 
     -- its code fits
     pub code_fits : {v e : ℕ} → NumberAt bs (s + g) v e → 2 * v + g ≤ 2 * cap + 1
-    code_fits {v} {e} k = go (is_minus (get_or bs s 0)) m
-      where
-        low : v ≤ cap
-        low = digits_capped (take (e - (s + g)) (drop (s + g) bs)) refl k.1
-
-        go : (t : Bool) → g ≡ cond t 1 0 → 2 * v + g ≤ 2 * cap + 1
-        go true q = omega (arith, low)
-        go false q = omega (arith, low)
-
-    -- it does start at s
-    here_starts : {v e : ℕ} → NumberAt bs (s + g) v e → (s < length bs) × (is_blank (get_or bs s 0) ≡ false)
-    here_starts {v} {e} k = (omega (arith, number_within (s + g) k), go (is_minus (get_or bs s 0)) refl m)
-      where
-        go : (t : Bool) → is_minus (get_or bs s 0) ≡ t → g ≡ cond t 1 0 → is_blank (get_or bs s 0) ≡ false
-        go true q m = ap (λ n. eqb n 0) (eqb-true (rank (class_of (get_or bs s 0))) 3 q)
-        go false q m =
-            let p : s + g ≡ s = omega arith in
-            let n : NumberAt bs s v e = rw p at k in
-            ends_at s (number_within s n) ∙ ne_eqb (run (passes Word) (drop s bs)) 0 (number_long s n)
+    code_fits {v} {e} k = omega (arith, digits_capped (take (e - (s + g)) (drop (s + g) bs)) refl k.1, sign_small (is_minus (get_or bs s 0)) m)
 
   -- the next token, s is its start and g its sign
   module _ (at : ℕ) {s : ℕ} (h : s ≡ at + run is_blank (drop at bs)) (l : s < length bs) where
@@ -211,13 +197,9 @@ module _ (bs : List ℕ) where
             let x : 2 * v + g ≡ 2 * v = omega arith in
             ap (λ i. Some (i, e)) x ∙ literal_read bs at h n.0 (number_digits (take (e - s) (drop s bs)) refl n.1) refl
 
-  pub plain_walked_from : (at : ℕ) {s g v e : ℕ} → s ≡ at + run is_blank (drop at bs) → g ≡ cond (is_minus (get_or bs s 0)) 1 0 → NumberAt bs (s + g) v e → g ≤ v → Says bs at (Some (2 * v + g, e))
-  plain_walked_from at {s} {g} {v} {e} h m k z x y q =
-      sym (literal_walked at h (omega (arith, number_within (s + g) k)) m k z) ∙ q
-
-  pub plain_walked : (at s : ℕ) {g v e : ℕ} → start_at bs s ≡ start_at bs at → g ≡ cond (is_minus (get_or bs s 0)) 1 0 → NumberAt bs (s + g) v e → g ≤ v → Says bs at (Some (2 * v + g, e))
-  unfolding start_at
-  plain_walked at s {g} {v} {e} a m k =
-      let b = here_starts s m k in
-      let h : s ≡ at + run is_blank (drop at bs) = omega (arith, run_stop is_blank bs s b.0 b.1) in
-      plain_walked_from at h m k
+  pub plain_told : (at : ℕ) {s g v e : ℕ} → s ≡ at + run is_blank (drop at bs) → g ≡ cond (is_minus (get_or bs s 0)) 1 0 → NumberAt bs (s + g) v e → {r : Option (ℕ × ℕ)} → r ≡ then_some {T = ℕ × ℕ} (leb g v) (2 * v + g, e) → Says bs at r
+  plain_told at {s} {g} {v} {e} h m k {r} w x y q = go (leb g v) refl (sym w ∙ q)
+    where
+      go : (t : Bool) → leb g v ≡ t → then_some {T = ℕ × ℕ} t (2 * v + g, e) ≡ Some (x, y) → literal_at bs at ≡ Some (x, y)
+      go true z q = sym (literal_walked at h (omega (arith, number_within (s + g) k)) m k (leb-true g v z)) ∙ q
+      go false z q = absurd (let z : ◌≡◌ {A = ℕ} 0 1 = cc in omega arith)

@@ -8,6 +8,7 @@ use native.Mathlib.Omega.{arith}
 use lib.ListN.{length, take, drop, length-drop}
 use lib.Dec.{eqb, leb, ltb}
 use borrow.Author.Tests.{lt-ltb, le-ltb, leb-true, leb-false, ltb-true, ltb-false, eqb-true, eqb-false, not-true}
+use Rattle.std.specs.Bool.{then_some}
 use Rattle.std.specs.Prelude.{Option, None, Some}
 use Rattle.lines.specs.Lists.{is_empty}
 use Rattle.lines.specs.Bytes.{is_blank, is_minus, same_bytes}
@@ -82,17 +83,15 @@ module _ (bs : List ℕ) (at : ℕ) {s : ℕ} (h : s ≡ at + run is_blank (drop
       pub literal_other : n ≡ None → None ≡ literal_at bs at
       literal_other g = sym (literal_is ∙ bad_literal (token_of (take (e - s) (drop s bs))) e (sym is_shown ∙ g))
 
-    pub word_same : {r : Bool} (w : List ℕ) → s < length bs → r ≡ same_bytes (take (e - s) (drop s bs)) w → r ≡ true → Some e ≡ word_is bs at w
+    pub word_told : {r : Bool} (w : List ℕ) → s < length bs → r ≡ same_bytes (take (e - s) (drop s bs)) w → then_some r e ≡ word_is bs at w
     unfolding word_is
-    word_same w l f t =
-        sym (ap₂ (λ x y. cond (x && y) (Some (end_at bs at)) None) (ap (λ n. ltb n (length bs)) start ∙ lt-ltb s (length bs) l)
-        (ap (λ x. same_bytes x w) the_word_lem ∙ sym f ∙ t) ∙ ap Some ends)
-
-    pub word_other : {r : Bool} (w : List ℕ) → s < length bs → r ≡ same_bytes (take (e - s) (drop s bs)) w → r ≡ false → None ≡ word_is bs at w
-    unfolding word_is
-    word_other w l f t =
-        sym (ap₂ (λ x y. cond (x && y) (Some (end_at bs at)) None) (ap (λ n. ltb n (length bs)) start ∙ lt-ltb s (length bs) l)
-        (ap (λ x. same_bytes x w) the_word_lem ∙ sym f ∙ t))
+    word_told {r} w l f =
+        let q : same_bytes (word_at bs at) w ≡ r = ap (λ x. same_bytes x w) the_word_lem ∙ sym f in
+        sym (ap₂ (λ x y. cond (x && y) (Some (end_at bs at)) None) (ap (λ n. ltb n (length bs)) start ∙ lt-ltb s (length bs) l) q ∙ ap (λ n. cond r (Some n) None) ends ∙ go r)
+      where
+        go : (t : Bool) → cond t (Some e) None ≡ then_some t e
+        go true = refl
+        go false = refl
 
   pub word_none : (w : List ℕ) → length bs ≤ s → None ≡ word_is bs at w
   unfolding word_is

@@ -132,13 +132,7 @@ fn blank_to_end(s: &[u8], i: usize) -> bool
     ensures { result ≡ true → i + run (passes Blanks) (drop i s.now) ≡ length s.now }
 {
     let n = s.len();
-    if n <= i {
-        return false;
-    }
-    if n < 8 {
-        return false;
-    }
-    if i < n - 8 {
+    if n < 8 || i < n - 8 || n <= i {
         return false;
     }
     all_blank(&s[n - 8..])
@@ -148,16 +142,15 @@ fn blank_to_end(s: &[u8], i: usize) -> bool
 fn past_blanks(s: &[u8], at: usize) -> usize
     ensures { result ≡ at + run (passes Blanks) (drop at s.now) }
 {
-    if at < s.len() {
-        if is_blank(s[at]) {
-            let i = past_eights(s, at);
-            if blank_to_end(s, i) {
-                return s.len();
-            }
-            return past(s, i, Run::Blanks);
-        }
+    if s.len() <= at || !is_blank(s[at]) {
+        return at;
     }
-    at
+    let i = past_eights(s, at);
+    if blank_to_end(s, i) {
+        s.len()
+    } else {
+        past(s, i, Run::Blanks)
+    }
 }
 
 // Whether one of the bytes ends a line; no branch depends on which.
@@ -174,10 +167,7 @@ fn ends_within(block: &[u8]) -> bool
 fn unless_end(n: usize, b: u8) -> usize
     ensures { result ≡ cond (is_line_end b) 0 n }
 {
-    if is_line_end(b) {
-        return 0;
-    }
-    n
+    if is_line_end(b) { 0 } else { n }
 }
 
 // How many of a block's first seven bytes stand before the line's end; no branch depends on where it is.
@@ -198,10 +188,7 @@ fn before_end(block: &[u8]) -> usize
 pub fn line_end(s: &[u8], at: usize) -> usize
     ensures { result ≡ at + run (passes Line) (drop at s.now) }
 {
-    if s.len() <= at {
-        return at;
-    }
-    if is_line_end(s[at]) {
+    if s.len() <= at || is_line_end(s[at]) {
         return at;
     }
     let mut i = at;
@@ -222,8 +209,7 @@ fn with_digit(v: u32, b: u8) -> u32
     requires { (v ≤ cap) × (48 ≤ b) }
     ensures { result ≡ min cap (v * 10 + (b - 48)) }
 {
-    let w = v * 10 + (b - b'0') as u32;
-    w.min(CAP)
+    (v * 10 + (b - b'0') as u32).min(CAP)
 }
 
 // The number that the bytes from a place on are.
@@ -275,10 +261,7 @@ pub fn number_of(word: &[u8]) -> Option<u32>
 fn word_ends(line: &[u8], at: usize) -> bool
     ensures { result ≡ eqb (run (passes Word) (drop at line.now)) 0 }
 {
-    if line.len() <= at {
-        return true;
-    }
-    is_blank(line[at])
+    line.get(at).is_none_or(|b| is_blank(*b))
 }
 
 // Whether another digit can follow: there is no leading zero, and the number stays below the cap.
@@ -317,21 +300,11 @@ fn unsigned_at(line: &[u8], from: usize) -> Option<(u32, usize)>
     Some((v, line.len()))
 }
 
-// 1 for a minus, else 0: the last bit of a literal's code.
-fn sign_of(b: u8) -> u32
-    ensures { result ≡ cond (is_minus b) 1 0 }
-{
-    is_minus(b) as u32
-}
-
-// The sign of what is at the place.
+// The sign of what is at the place, 1 for a minus, else 0: the last bit of a literal's code.
 fn minus_at(line: &[u8], s: usize) -> u32
     ensures { result ≡ cond (is_minus (get_or line.now s 0)) 1 0 }
 {
-    if s < line.len() {
-        return sign_of(line[s]);
-    }
-    0
+    line.get(s).is_some_and(|b| is_minus(*b)) as u32
 }
 
 // The next token as a literal, or as the zero that ends a list, in one walk, if it is well-formed and short.
@@ -340,12 +313,8 @@ pub fn plain_at(line: &[u8], at: usize) -> Option<(u32, usize)>
 {
     let s = past(line, at, Run::Blanks);
     let sign = minus_at(line, s);
-    if let Some((v, e)) = unsigned_at(line, s + sign as usize) {
-        if sign <= v {
-            return Some((2 * v + sign, e));
-        }
-    }
-    None
+    let (v, e) = unsigned_at(line, s + sign as usize)?;
+    (sign <= v).then_some((2 * v + sign, e))
 }
 
 // The next token as a literal, or as the zero that ends a list. What `plain_at` does not read is read by `number_of`.
@@ -409,10 +378,7 @@ pub fn word_is(line: &[u8], at: usize, word: &[u8]) -> Option<usize>
         return None;
     }
     let e = past(line, s, Run::Word);
-    if &line[s..e] == word {
-        return Some(e);
-    }
-    None
+    (&line[s..e] == word).then_some(e)
 }
 
 // How a line begins: it is skipped; with a word of one byte, and the place after it; with another word.
@@ -435,9 +401,10 @@ pub fn line_head(line: &[u8]) -> Head
         return Head::Skipped;
     }
     if word_ends(line, s + 1) {
-        return Head::Letter(b, s + 1);
+        Head::Letter(b, s + 1)
+    } else {
+        Head::Other
     }
-    Head::Other
 }
 
 // Where the line with this number starts; the end where there is no such line.

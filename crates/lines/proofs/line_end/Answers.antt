@@ -5,14 +5,15 @@ use Prim.Native.Nat.{◌+◌}
 use Rattle.std.specs.Slice.Iter.{chunks_exact_rest, chunks_exact_size}
 use Rattle.lines.specs.declared.Run.TheVariants.{Line}
 use Rattle.lines.specs.Scan.{passes}
-use Rattle.lines.proofs.Runs.{run_le, run_past, run_stop, slice_from, block_next, block_over, block_within}
+use Rattle.lines.proofs.Runs.{run_le, none_past, none_here, slice_from, block_next, block_over, block_within}
+use Rattle.lines.proofs.line_end.Goals.{then-s-at-via-then-s-at, then-s-at-via-else-s-at+then-is_line_end}
 use Rattle.lines.proofs.line_end.Goals as goal
 
 pub returns-then-s-at : goal.returns-then-s-at
-returns-then-s-at c = let z = run_past (passes Line) c.args.s.now c.args.at c.if-s-at.true in omega arith
-
-pub returns-then-is_line_end : goal.returns-then-is_line_end
-returns-then-is_line_end c = let z = run_stop (passes Line) c.args.s.now c.args.at c.if-s-at.false (ap not (sym c.is_line_end.ensures ∙ c.if-is_line_end.true)) in omega arith
+returns-then-s-at c = elim c.then-s-at.branch [
+  | then-s-at-via-then-s-at w ↦ none_past (passes Line) _ _ w.if-s-at.true
+  | then-s-at-via-else-s-at+then-is_line_end w ↦ none_here (passes Line) _ _ w.if-s-at.false (ap not (sym w.is_line_end.ensures ∙ w.if-is_line_end.true))
+]
 
 pub loop-block-init : goal.loop-block-init
 loop-block-init c =

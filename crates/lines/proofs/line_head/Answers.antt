@@ -10,5 +10,5 @@ returns-then-b-eq99 c = head_comment _ c.past_blanks-s.ensures c.if-line-s.false
 pub returns-then-word_ends : goal.returns-then-word_ends
 returns-then-word_ends c = head_one _ c.past_blanks-s.ensures c.if-line-s.false c.if-b-eq99.false c.word_ends.ensures c.if-word_ends.true
 
-pub returns : goal.returns
-returns c = head_more _ c.past_blanks-s.ensures c.if-line-s.false c.if-b-eq99.false c.word_ends.ensures c.if-word_ends.false
+pub returns-else-word_ends : goal.returns-else-word_ends
+returns-else-word_ends c = head_more _ c.past_blanks-s.ensures c.if-line-s.false c.if-b-eq99.false c.word_ends.ensures c.if-word_ends.false

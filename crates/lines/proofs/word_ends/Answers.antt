@@ -1,9 +1,8 @@
-use mathlib.Core.Path.{◌∙◌}
-use Rattle.lines.proofs.Walks.{ends_at, ends_past}
+use borrow.Author.Rules.{rules}
+use Rattle.lines.specs.Bytes.{is_blank}
+use Rattle.lines.proofs.Here.{test_at}
+use Rattle.lines.proofs.Walks.{ends_told}
 use Rattle.lines.proofs.word_ends.Goals as goal
 
-pub returns-then-line-at : goal.returns-then-line-at
-returns-then-line-at c = ends_past _ _ c.if-line-at.true
-
 pub returns : goal.returns
-returns c = c.is_blank.ensures ∙ ends_at _ _ c.if-line-at.false
+returns c = ends_told _ _ (test_at is_blank _ _ _ c.get.ensures.lookup c.is_none_or.ensures (λ x q. search rules))
