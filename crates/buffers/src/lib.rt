@@ -3,24 +3,14 @@
 
 ghost use Rattle.std.specs.Prelude.{◌≡◌, ◌+◌, ◌≤◌, length, map};
 ghost use Rattle.std.proofs.lemmas.List.Edits.{sets};
-ghost use Rattle.lines.specs.Scan.{literal_at};
 ghost use Rattle.lists.specs.Lists.{listed_at};
 ghost use Rattle.lists.specs.Stores.{codes_at, puts};
 ghost use Rattle.buffers.specs.Buffers.{as_stored, StoresLine};
 
 use clauses::{PLACES, Store};
+use lines::Literals;
 use lists::Measure;
 use rules::Rule;
-
-// The next token, as `lines::literal_at` reads it. Most tokens are plain, and the walk for those is short enough to be compiled into the loop below.
-fn token(line: &[u8], at: usize) -> Option<(u32, usize)>
-    ensures { result ≡ literal_at line.now at }
-{
-    if let Some((x, e)) = lines::plain_at(line, at) {
-        return Some((x, e));
-    }
-    lines::literal_at(line, at)
-}
 
 // As `lists::list_at`; and the codes of the list and of its zero are in the buffer, as far as it goes.
 pub fn list_at(line: &[u8], at: usize, buffer: &mut [u32]) -> Option<(Measure, usize)>
@@ -28,19 +18,18 @@ pub fn list_at(line: &[u8], at: usize, buffer: &mut [u32]) -> Option<(Measure, u
         × (buffer.new ≡ sets buffer.old 0 (codes_at line.now at)) }
 {
     let mut measure = Measure::none();
-    let mut i = at;
-    while let Some((x, e)) = token(line, i) {
+    for (x, e) in Literals::new(line, at) {
         cells::set_at(buffer, measure.count, x);
         if x == 0 {
             return Some((measure, e));
         }
         measure = measure.with(x);
-        i = e;
     }
     None
 }
 
 // Codes in a table from a place on.
+#[tactic(auto, using(crate::proofs::BufferLaws::copying_more, crate::proofs::BufferLaws::copying_end))]
 fn copy(codes: &[u32], table: &mut [i32], from: usize)
     requires { (from ≤ 1073741824) × (length codes.now ≤ 1073741824) }
     ensures { table.new ≡ puts table.old from (map as_stored codes.now) }

@@ -1,8 +1,9 @@
 -- The copies of a clause one after the other, and rule 9. Assumes nothing.
 use mathlib.Core.Path.{◌≡◌, refl, ap, ap₂, ◌∙◌}
-use mathlib.Core.Bool.{◌&&◌}
+use mathlib.Core.Bool.{Bool, ◌&&◌}
 use mathlib.Core.List.{List, [], ◌∷◌, map}
 use Prim.Native.Nat.{ℕ, ◌/◌}
+use Rattle.std.specs.List.{list_all}
 use Rattle.lines.specs.Lists.{all}
 use Rattle.rules.specs.Literals.{Lits, vars}
 use Rattle.rules.specs.Codes.{code_of}
@@ -20,3 +21,8 @@ mapped_all {noted} {m} h c e = ap (all (λ x. is_noted noted (x / 2))) e ∙ go 
     go : (d : Lits) → all (λ x. is_noted noted (x / 2)) (map code_of d) ≡ all (is_mapped m) (vars d)
     go [] = refl
     go (l ∷ d) = ap₂ ◌&&◌ (mapped_rule h l refl) (go d)
+
+-- a test of all, as std has it
+pub all_listed : (p : ℕ → Bool) (xs : List ℕ) → list_all p xs ≡ all p xs
+all_listed p [] = refl
+all_listed p (x ∷ xs) = ap (λ b. p x && b) (all_listed p xs)

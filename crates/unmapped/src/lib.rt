@@ -10,13 +10,8 @@ use mapped::{Noted, is_mapped};
 
 // Whether all copies of a clause are mapped.
 #[tactic(auto, unfolding(crate::specs::Copies::all_mapped))]
-pub fn all_mapped(clause: Codes, noted: &Noted) -> bool
+pub fn all_mapped(mut clause: Codes, noted: &Noted) -> bool
     ensures { result ≡ all_mapped noted.now (codes_left clause.entry) }
 {
-    for x in clause {
-        if !is_mapped(noted, x) {
-            return false;
-        }
-    }
-    true
+    clause.all(|x| is_mapped(noted, x))
 }
