@@ -9,25 +9,32 @@ use native.Mathlib.Numerals.{add-one}
 use lib.ListN.{drop, drop_of_length-le, get_or, set, replicate, length, length-set, length-map, get_or-eq_default, get_or-map}
 use lib.Seq.{get_or-set_same, get_or-set_other, drop-drop, drop-cons}
 use lib.IntN.{ℤ, pos, negsuc, nat_abs}
-use lib.Dec.{leb, ltb}
-use borrow.Author.Tests.{leb-true, leb-false, ltb-false, eq-eqb, ne_eqb}
+use lib.Signed.{le_z, non_neg}
+use lib.Dec.{T, leb}
+use borrow.Author.Tests.{leb-true, leb-false, eq-eqb, ne_eqb}
 use mir.Syntax.{w32}
-use mir.Val.{SFits, to_z, of_z}
-use mir.Facts.{to_z-of_z}
-use Rattle.std.specs.Int.{int_max}
+use mir.Val.{Fits, SFits, to_z, of_z}
+use mir.Facts.{to_z-of_z, Fits-nat_abs}
 use Rattle.cells.specs.Cells.{num, cell_at, cells_of, code_at, codes_of, up_to, list_at, Kept}
 
--- THE SIGN OF A PLACE: the larger of it and 0
-above_zero : (z : ℤ) → nat_abs (int_max z (pos 0)) ≡ num z
-above_zero (pos n) = go (ltb 0 n) refl
-  where
-    go : (b : Bool) → ltb 0 n ≡ b → nat_abs (cond b (pos n) (pos 0)) ≡ n
-    go true e = refl
-    go false e = omega (arith, ltb-false 0 n e)
-above_zero (negsuc n) = refl
+-- THE SIGN OF A PLACE: what the test on it gives
+sign : (z : ℤ) → le_z (pos 0) z ≡ true → T (non_neg z) × (nat_abs z ≡ num z)
+sign (pos n) e = (tt, refl)
+sign (negsuc n) e = let z : ◌≡◌ {A = Bool} false true = e in let w : ◌≡◌ {A = ℕ} 0 1 = cc in omega arith
 
-pub read_max : {z x : ℤ} → SFits w32 z → SFits w32 x → x ≡ int_max (to_z w32 (of_z w32 z)) (pos 0) → nat_abs (to_z w32 (of_z w32 x)) ≡ num z
-read_max {z} {x} f g e = ap nat_abs (to_z-of_z g ∙ e ∙ ap (λ z. int_max z (pos 0)) (to_z-of_z f)) ∙ above_zero z
+below_zero : (z : ℤ) → le_z (pos 0) z ≡ false → 0 ≡ num z
+below_zero (pos n) e = omega (arith, leb-false 0 n e)
+below_zero (negsuc n) e = refl
+
+module _ (z : ℤ) (f : SFits w32 z) where
+  pub read_cast : le_z (pos 0) (to_z w32 (of_z w32 z)) ≡ true → T (non_neg (to_z w32 (of_z w32 z))) × Fits w32 (nat_abs (to_z w32 (of_z w32 z)))
+  read_cast e = rw (to_z-of_z f) ((sign z (rw (to_z-of_z f) at e)).0, Fits-nat_abs tt f)
+
+  pub read_num : le_z (pos 0) (to_z w32 (of_z w32 z)) ≡ true → nat_abs (to_z w32 (of_z w32 z)) ≡ num z
+  read_num e = rw (to_z-of_z f) (sign z (rw (to_z-of_z f) at e)).1
+
+  pub read_neg : le_z (pos 0) (to_z w32 (of_z w32 z)) ≡ false → 0 ≡ num z
+  read_neg e = below_zero z (rw (to_z-of_z f) at e)
 
 pub at_past : (t : List ℤ) (i : ℕ) → length t ≤ i → 0 ≡ cell_at t i
 unfolding cell_at

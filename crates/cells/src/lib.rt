@@ -10,7 +10,10 @@ ghost use Rattle.cells.specs.Codes.{codes_table, codes_place, codes_left};
 pub fn cell(t: &[i32], i: usize) -> u32
     ensures { result ≡ cell_at t.now i }
 {
-    t.get(i).copied().unwrap_or(0).max(0) as u32
+    match t.get(i) {
+        Some(x) if 0 <= *x => *x as u32,
+        _ => 0,
+    }
 }
 
 // Stores a number below 2^31 at a place, a larger one less its highest bit; nothing past the end.
