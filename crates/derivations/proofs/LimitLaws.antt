@@ -1,10 +1,11 @@
 -- Laws of the limits of a clause line. Assumes nothing.
 use mathlib.Core.Path.{◌≡◌, refl, ap, ap₂, sym, ◌∙◌}
 use mathlib.Core.Bool.{Bool, true, false, ◌&&◌}
-use Prim.Native.Nat.{ℕ, ◌+◌, ◌-◌, ◌<◌, ◌≤◌, max}
+use Prim.Native.Nat.{ℕ, ◌+◌, ◌-◌, max}
 use native.Mathlib.Omega.{arith}
 use lib.Dec.{leb}
-use borrow.Author.Tests.{leb-true, leb-false, le-leb, lt-leb}
+use borrow.Author.Tests.{leb-true, le-leb}
+use Rattle.rules.proofs.Kit.{same_test}
 use Rattle.clauses.specs.Standing.{proof_need, places_of, grown, room_for}
 use Rattle.clauses.proofs.StoreLaws.{proof_grown, marks_grown}
 use Rattle.derivations.specs.declared.Progress.{Progress}
@@ -17,18 +18,6 @@ first_true a {b} e i = i ∙ sym (ap (λ x. x && b) e)
 
 first_false : (a b : Bool) → a ≡ false → false ≡ a && b
 first_false a b e = sym (ap (λ x. x && b) e)
-
--- two tests that come to the same
-same_test : (a b c d : ℕ) → (a ≤ b → c ≤ d) → (c ≤ d → a ≤ b) → leb a b ≡ leb c d
-same_test a b c d f g = go (leb a b) refl
-  where
-    go : (x : Bool) → leb a b ≡ x → x ≡ leb c d
-    go true e = sym (le-leb c d (f (leb-true a b e)))
-    go false e = sym (lt-leb c d (later (leb c d) refl))
-      where
-        later : (y : Bool) → leb c d ≡ y → d < c
-        later true h = absurd (omega (arith, g (leb-true c d h), leb-false a b e))
-        later false h = leb-false c d h
 
 -- WHAT THE CODE TESTS
 module _ (p : Progress) (d : Derivation) (proof marks values : ℕ) where
@@ -43,8 +32,9 @@ module _ (p : Progress) (d : Derivation) (proof marks values : ℕ) where
     unfolding has_places
     same =
         ap₂ (λ a b. a && b && rest)
-        (same_test (proof_need (grown p.store d.size)) free need proof (λ h. omega (arith, i, proof_grown p.store d.size))
-        (λ h. omega (arith, i, proof_grown p.store d.size)))
+        (same_test (leb (proof_need (grown p.store d.size)) free) (leb need proof)
+        (λ h. le-leb need proof (omega (arith, i, proof_grown p.store d.size, leb-true (proof_need (grown p.store d.size)) free h)))
+        (λ h. le-leb (proof_need (grown p.store d.size)) free (omega (arith, i, proof_grown p.store d.size, leb-true need proof h))))
         (ap (λ z. leb z marks) (marks_grown p.store d.size))
 
     pub places_room : b ≡ false → false ≡ has_places p d proof marks values

@@ -9,9 +9,7 @@ use lib.Dec.{leb}
 use lib.ListN.{length}
 use lib.IntN.{ℤ}
 use borrow.Author.Tests.{le-leb, lt-leb}
-use Rattle.std.specs.Prelude.{Result, Ok, Err, Some, None}
-use Rattle.std.specs.Prelude as prelude
-use Rattle.std.specs.Option.{ok_or}
+use Rattle.std.specs.Prelude.{Result, Err, Some, None}
 use Rattle.rules.specs.Rule.{number}
 use Rattle.rules.specs.declared.Rule.{Rule}
 use Rattle.rules.specs.declared.Rule.TheVariants.{Malformed}
@@ -50,16 +48,6 @@ use Rattle.progress.proofs.OrderLaws.{order_additions, Passed, Limited, within, 
 use Rattle.steps.proofs.StandLaws.{Adds, expansions_add, additions_add, clause_needs_lem, clause_room}
 use Rattle.progress.proofs.HintLaws.{hints_kept}
 use Rattle.ferat.specs.Lines.{judged, Line}
-
--- a first pass that is asked for with a refusal
-module _ {A : Type 0} where
-  pub asked_some : (r : prelude.Option A) {q : A} → ok_or r Malformed ≡ Ok q → r ≡ Some q
-  asked_some None e = cc
-  asked_some (Some x) {q} e = let z : x ≡ q = cc in ap Some z
-
-  pub asked_none : (r : prelude.Option A) {k : Rule} → ok_or r Malformed ≡ Err k → (k ≡ Malformed) × (r ≡ None)
-  asked_none None {k} e = (let z : Malformed ≡ k = cc in sym z, refl)
-  asked_none (Some x) e = cc
 
 -- the rules' answer by the form
 module _ (form : List Token → Option CertificateLine) (bs : List ℕ) (at : ℕ) (t : Tables) (f : Formula) (s : State) where

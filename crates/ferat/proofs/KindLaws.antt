@@ -1,18 +1,17 @@
 -- Laws of the kinds of lines. Assumes nothing.
-use mathlib.Core.Path.{◌≡◌, refl, ap, sym, ◌∙◌}
+use mathlib.Core.Path.{◌≡◌, refl, ap, sym, ◌∙◌, subst}
 use mathlib.Core.Bool.{Bool, true, false}
 use mathlib.Core.List.{List, [], ◌∷◌}
-use mathlib.Core.Option.{Option, none, some}
+use mathlib.Core.Option.{Option, none}
 use Prim.Native.Nat.{ℕ}
 use Prim.Native.String.{String}
 use lib.Dec.{eqb}
-use borrow.Author.Tests.{eqb-true}
+use borrow.Author.Tests.{eqb-true, ne_eqb}
 use Rattle.lines.specs.Bytes.{class_of, bytes, same_bytes}
-use Rattle.lines.specs.Lines.{Token, number, minus, word, token_of, read_line}
+use Rattle.lines.specs.Lines.{Token, number, minus, word, token_of}
 use Rattle.lines.specs.declared.Head.{Head}
 use Rattle.lines.specs.Scan.{tokens_from, head_of}
-use Rattle.lines.proofs.Heads.{head_skipped, head_letter, head_other}
-use Rattle.rules.specs.Basics.{maybe}
+use Rattle.reading.proofs.HeadLaws.{head_skips, letter_reads, letter_plain, other_plain}
 use Rattle.rules.specs.Formula.{Formula}
 use Rattle.rules.specs.Forms.{CertificateLine, expansion, addition, deletion, certificate_line, by_word, mapping_form, hints_form, clause_form}
 use Rattle.rules.specs.Limits.{limits}
@@ -20,9 +19,8 @@ use Rattle.rules.specs.Step as rules
 use Rattle.rules.specs.Step.{judge_bytes}
 use Rattle.rules.specs.CertificateLines.{State, judge}
 use Rattle.formula.proofs.LineKinds.{word_is_lem, one_byte, other_byte}
-use Rattle.ferat.specs.declared.kinds.Kind.{Kind}
 use Rattle.tables.specs.Tables.{Tables, lengths_of}
-use Rattle.ferat.specs.Kinds.{picked, letter_kind, kind_of}
+use Rattle.ferat.specs.Kinds.{Kind, Skip, Mapping, Hints, Expansion, Deletion, Addition, picked, letter_kind, kind_of}
 use Rattle.ferat.specs.Lines.{judged}
 use Rattle.ferat.specs.Certificate.{judge_line}
 
@@ -53,60 +51,48 @@ module _ (bs : List ℕ) (t : Tables) (f : Formula) (s : State) where
   line = judge_line (limits (lengths_of t)) f s bs
 
   abbrev pub Means : Kind → Type 0
-  Means Kind.Skip = line ≡ rules.next s
-  Means (Kind.Mapping e) = line ≡ judged mapping_form bs e t f s
-  Means (Kind.Hints e) = line ≡ judged hints_form bs e t f s
-  Means (Kind.Expansion e) = line ≡ judged (clause_form expansion) bs e t f s
-  Means (Kind.Deletion e) = line ≡ judged (clause_form deletion) bs e t f s
-  Means Kind.Addition = line ≡ judged (clause_form addition) bs 0 t f s
+  Means Skip = line ≡ rules.next s
+  Means (Mapping e) = line ≡ judged mapping_form bs e t f s
+  Means (Hints e) = line ≡ judged hints_form bs e t f s
+  Means (Expansion e) = line ≡ judged (clause_form expansion) bs e t f s
+  Means (Deletion e) = line ≡ judged (clause_form deletion) bs e t f s
+  Means Addition = line ≡ judged (clause_form addition) bs 0 t f s
 
-  abbrev by : Option CertificateLine → rules.Step State
-  by o = maybe o (rules.refuse 2 s) (judge (limits (lengths_of t)) f s)
-
-  read_as : {ts : List Token} → read_line bs ≡ some ts → line ≡ by (certificate_line ts)
-  unfolding judge_bytes
-  read_as e = ap (λ r. maybe r (rules.next s) (λ ts. by (certificate_line ts))) e
-
-  as_addition : {ts : List Token} → line ≡ by (clause_form addition ts) → tokens_from bs 0 ≡ ts → line ≡ judged (clause_form addition) bs 0 t f s
-  unfolding judged
-  as_addition h e = h ∙ ap (λ ts. by (clause_form addition ts)) (sym e)
+  abbrev judging : State → CertificateLine → rules.Step State
+  judging = judge (limits (lengths_of t)) f
 
   letter_means : (b e : ℕ) → head_of bs ≡ Head.Letter b e → Means (letter_kind b e)
   unfolding letter_kind judged certificate_line class_of
   letter_means b e h = go (eqb b 120) refl (eqb b 111) refl (eqb b 101) refl (eqb b 100) refl
     where
-      first : line ≡ by (certificate_line (token_of (b ∷ []) ∷ tokens_from bs e))
-      first = let k = head_letter bs h in read_as k.0 ∙ ap (λ ts. by (certificate_line ts)) k.1
-
-      known : (n : ℕ) → b ≡ n → line ≡ by (certificate_line (token_of (n ∷ []) ∷ tokens_from bs e))
-      known n q = first ∙ ap (λ n. by (certificate_line (token_of (n ∷ []) ∷ tokens_from bs e))) q
-
       go : (x : Bool) → eqb b 120 ≡ x → (o : Bool) → eqb b 111 ≡ o → (v : Bool) → eqb b 101 ≡ v → (d : Bool) → eqb b 100 ≡ d → Means (picked e x o v d)
-      go true i o j v k d l = known 120 (eqb-true b 120 i)
-      go false i true j v k d l = known 111 (eqb-true b 111 j)
-      go false i false j true k d l = known 101 (eqb-true b 101 k)
-      go false i false j false k true l = known 100 (eqb-true b 100 l)
+      go true i o j v k d l = letter_reads certificate_line judging s bs h (eqb-true b 120 i)
+      go false i true j v k d l = letter_reads certificate_line judging s bs h (eqb-true b 111 j)
+      go false i false j true k d l = letter_reads certificate_line judging s bs h (eqb-true b 101 k)
+      go false i false j false k true l = letter_reads certificate_line judging s bs h (eqb-true b 100 l)
       go false i false j false k false l =
-          as_addition
-          (first ∙ ap by (plain_line (b ∷ []) (tokens_from bs e) (other_byte b 120 i) (other_byte b 111 j) (other_byte b 101 k) (other_byte b 100 l)))
-          (head_letter bs h).1
+          letter_plain certificate_line judging s bs (clause_form addition) h
+          (plain_line (b ∷ []) (tokens_from bs e) (other_byte b 120 i) (other_byte b 111 j) (other_byte b 101 k) (other_byte b 100 l))
 
-  other_means : head_of bs ≡ Head.Other → Means Kind.Addition
+  other_means : head_of bs ≡ Head.Other → Means Addition
+  unfolding judged
   other_means h =
-      let k = head_other bs h in
-      as_addition
-      (read_as k.2 ∙ ap (λ ts. by (certificate_line ts)) k.3
-      ∙ ap by (plain_line k.0 k.1 (one_byte k.0 120 k.4) (one_byte k.0 111 k.4) (one_byte k.0 101 k.4) (one_byte k.0 100 k.4)))
-      k.3
+      other_plain certificate_line judging s bs (clause_form addition) h
+      (λ w ts long. plain_line w ts (one_byte w 120 long) (one_byte w 111 long) (one_byte w 101 long) (one_byte w 100 long))
 
-  skip_means : head_of bs ≡ Head.Skipped → Means Kind.Skip
-  unfolding judge_bytes
-  skip_means h = ap (λ r. maybe r (rules.next s) (λ ts. by (certificate_line ts))) (head_skipped bs h)
-
-  pub kind_means : Means (kind_of (head_of bs))
+  kind_means : Means (kind_of (head_of bs))
   kind_means = go (head_of bs) refl
     where
       go : (h : Head) → head_of bs ≡ h → Means (kind_of h)
-      go Head.Skipped e = skip_means e
+      go Head.Skipped e = head_skips certificate_line judging s bs e
       go (Head.Letter b e) q = letter_means b e q
       go Head.Other e = other_means e
+
+  -- by the head that the code matches
+  pub head_means : {k : Kind} {h : Head} → head_of bs ≡ h → kind_of h ≡ k → Means k
+  head_means e i = subst Means (ap kind_of e ∙ i) kind_means
+
+-- a letter that is none of the four
+pub plain_letter : (b e : ℕ) → (b ≡ 120 → ⊥) → (b ≡ 111 → ⊥) → (b ≡ 101 → ⊥) → (b ≡ 100 → ⊥) → letter_kind b e ≡ Addition
+unfolding letter_kind
+plain_letter b e x o v d = rw (ne_eqb b 120 x, ne_eqb b 111 o, ne_eqb b 101 v, ne_eqb b 100 d) refl

@@ -1,4 +1,4 @@
--- A line's promise among any other tables and memory, and for those that were lent. Assumes nothing.
+-- The tables and the working memory that were lent, among any others. Assumes nothing.
 use mathlib.Core.Path.{◌≡◌, ap, sym, ◌∙◌, subst}
 use mathlib.Core.List.{List}
 use mathlib.Core.Option.{Option}
@@ -26,7 +26,6 @@ among_lent t u e = among_kept t t u e ∙ sym e
 pub beside_lent : (w v : Work) → v ≡ record w { propagation = record w.propagation { trail = v.propagation.trail } } → beside w v ≡ v
 beside_lent w v e = ap (λ (x : Work). record w { propagation = x.propagation }) e ∙ sym e
 
-pub line_lent : {form : List Token → Option CertificateLine} {bs : List ℕ} {at : ℕ} {p : Progress} {t : Tables} {w : Work} {r : Result Progress Rule}
-    {u u' : Tables} {v v' : Work} → u ≡ u' → v ≡ v' → Line form bs at p t w r u v → Line form bs at p t w r u' v'
-line_lent {form} {bs} {at} {p} {t} {w} {r} {u} {u'} {v} {v'} e g x =
-    subst (λ v. Line form bs at p t w r u' v) g (subst (λ u. Line form bs at p t w r u v) e x)
+pub line_then : {form : List Token → Option CertificateLine} {bs : List ℕ} {at : ℕ} {p : Progress} {t : Tables} {w : Work} {r : Result Progress Rule}
+    {u u' : Tables} {v : Work} → u ≡ u' → Line form bs at p t w r u v → Line form bs at p t w r u' v
+line_then {form} {bs} {at} {p} {t} {w} {r} {v = v} e x = subst (λ u. Line form bs at p t w r u v) e x

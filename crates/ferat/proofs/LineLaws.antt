@@ -1,12 +1,11 @@
 -- Laws of one line of the certificate, by its kind. Assumes nothing.
-use mathlib.Core.Path.{◌≡◌, sym, ◌∙◌, subst}
+use mathlib.Core.Path.{◌≡◌}
 use mathlib.Core.List.{List}
 use mathlib.Core.Option.{Option}
 use Prim.Native.Nat.{ℕ}
 use Rattle.std.specs.Prelude.{Result, Ok}
 use Rattle.rules.specs.declared.Rule.{Rule}
 use Rattle.lines.specs.Lines.{Token}
-use Rattle.lines.specs.Scan.{head_of}
 use Rattle.rules.specs.Formula.{Formula}
 use Rattle.rules.specs.Forms.{CertificateLine}
 use Rattle.rules.specs.Limits.{limits}
@@ -16,19 +15,13 @@ use Rattle.progress.specs.declared.Progress.{Progress}
 use Rattle.reading.proofs.LineLaws as reading
 use Rattle.progress.specs.declared.Work.{Work}
 use Rattle.progress.specs.Shown.{ferat_rules, ferat_code}
-use Rattle.ferat.specs.declared.kinds.Kind.{Kind}
-use Rattle.ferat.specs.Kinds.{kind_of}
+use Rattle.ferat.specs.Kinds.{Skip}
 use Rattle.ferat.specs.Lines.{judged, Line}
 use Rattle.ferat.specs.Certificate.{judge_line, AnyLine}
-use Rattle.ferat.proofs.KindLaws.{Means, kind_means}
-
--- what a kind says of a line
-module _ (bs : List ℕ) {k : Kind} (kind : k ≡ kind_of (head_of bs)) where
-  pub means : (t : Tables) (f : Formula) (s : State) {k' : Kind} → k ≡ k' → Means bs t f s k'
-  means t f s e = subst (Means bs t f s) (sym kind ∙ e) (kind_means bs t f s)
+use Rattle.ferat.proofs.KindLaws.{Means}
 
 module _ {bs : List ℕ} {p : Progress} {t : Tables} {w : Work} where
-  pub line_skipped : ((f : Formula) (s : State) → Means bs t f s Kind.Skip) → AnyLine bs p t w (Ok p) t w
+  pub line_skipped : ((f : Formula) (s : State) → Means bs t f s Skip) → AnyLine bs p t w (Ok p) t w
   line_skipped m = reading.line_skipped ferat_rules ferat_code m
 
   -- a line of a form

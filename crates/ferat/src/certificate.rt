@@ -10,11 +10,11 @@ ghost use Rattle.ferat.specs.Check.{ferat_by_rules, begun};
 use crate::clause_lines::{addition_line, expansion_line};
 use crate::deletion_lines::deletion_line;
 use crate::hint_lines::hints_line;
-use crate::kinds::{Kind as Line, kind_of};
 use crate::mapping_lines::mapping_line;
 use certificates::{Checker, Kind};
 use clauses::Store;
 use formula::Reading;
+use lines::Head;
 use mapping::Mapped;
 use progress::{Progress, Work};
 use propagation::{END, Propagation, Watches};
@@ -39,19 +39,20 @@ impl Kind for Ferat {
 
     ghost apt = { ferat_apt };
 
+    // What a line is, its first word says; one of no other form is read as an addition.
     fn line(
         line: &[u8],
         p: Progress,
         tables: &mut LentTables,
         work: &mut Work,
     ) -> Result<Progress, Rule> {
-        match kind_of(line) {
-            Line::Skip => Ok(p),
-            Line::Mapping(at) => mapping_line(line, at, p, tables, work),
-            Line::Hints(at) => hints_line(line, at, p, tables),
-            Line::Expansion(at) => expansion_line(line, at, p, tables, work),
-            Line::Deletion(at) => deletion_line(line, at, p, tables, work),
-            Line::Addition => addition_line(line, p, tables, work),
+        match lines::line_head(line) {
+            Head::Skipped => Ok(p),
+            Head::Letter(b'x', at) => mapping_line(line, at, p, tables, work),
+            Head::Letter(b'o', at) => hints_line(line, at, p, tables),
+            Head::Letter(b'e', at) => expansion_line(line, at, p, tables, work),
+            Head::Letter(b'd', at) => deletion_line(line, at, p, tables, work),
+            _ => addition_line(line, p, tables, work),
         }
     }
 

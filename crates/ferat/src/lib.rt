@@ -6,7 +6,6 @@ mod checking;
 mod clause_lines;
 mod deletion_lines;
 mod hint_lines;
-mod kinds;
 mod mapping_lines;
 
 pub use checking::check;

@@ -1,6 +1,6 @@
 -- Laws of the clause line. Assumes nothing.
 use Rattle.std.specs.Prelude.{Result, Err, Some, None}
-use Rattle.std.specs.Prelude.{Option as Answer, ok_or}
+use Rattle.std.specs.Prelude.{Option as Answer}
 use Rattle.rules.specs.Rule.{number}
 use Rattle.rules.specs.declared.Rule.{Rule}
 use Rattle.rules.specs.declared.Rule.TheVariants.{Malformed}
@@ -54,14 +54,6 @@ use Rattle.derivations.proofs.StandLaws.{needs_with, clause_needs_lem, accepted_
 use Rattle.ferp_forms.specs.Forms.{capped_reason, derivation_at, KeptIn, Derives}
 use Rattle.ferp_forms.proofs.DerivationLaws.{Measured, MeasuredAs, measures}
 use Rattle.ferp.specs.Lines.{judged, Line}
-
--- a first pass that is asked for with a refusal
-pub asked_none : {A : Type 0} {r : Answer A} {k : Rule} → Err k ≡ ok_or r Malformed → r ≡ None → k ≡ Malformed
-asked_none {A} {r} {k} e z = by r e z
-  where
-    by : (r : Answer A) → Err k ≡ ok_or r Malformed → r ≡ None → k ≡ Malformed
-    by None e z = cc
-    by (Some x) e z = cc
 
 -- the rules' answer by the form
 module _ (bs : List ℕ) (at : ℕ) (t : Tables) (f : Formula) (s : Derived) where

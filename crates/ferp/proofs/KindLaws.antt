@@ -2,16 +2,15 @@
 use mathlib.Core.Path.{◌≡◌, refl, ap, sym, ◌∙◌, subst}
 use mathlib.Core.Bool.{Bool, true, false, cond}
 use mathlib.Core.List.{List, [], ◌∷◌}
-use mathlib.Core.Option.{Option, none, some}
+use mathlib.Core.Option.{Option, none}
 use Prim.Native.Nat.{ℕ}
 use lib.Dec.{eqb}
-use borrow.Author.Tests.{eqb-true}
+use borrow.Author.Tests.{eqb-true, ne_eqb}
 use Rattle.lines.specs.Bytes.{class_of, bytes, same_bytes}
-use Rattle.lines.specs.Lines.{Token, number, minus, word, token_of, read_line}
+use Rattle.lines.specs.Lines.{Token, number, minus, word, token_of}
 use Rattle.lines.specs.declared.Head.{Head}
 use Rattle.lines.specs.Scan.{tokens_from, head_of}
-use Rattle.lines.proofs.Heads.{head_skipped, head_letter, head_other}
-use Rattle.rules.specs.Basics.{maybe}
+use Rattle.reading.proofs.HeadLaws.{head_skips, letter_reads, letter_plain, other_plain}
 use Rattle.rules.specs.Formula.{Formula}
 use Rattle.rules.specs.Limits.{limits}
 use Rattle.rules.specs.Step as rules
@@ -21,8 +20,7 @@ use Rattle.ferp_rules.specs.Forms.{FerpLine, derivation_form, ferp_line}
 use Rattle.ferp_rules.specs.Lines.{Derived, judge}
 use Rattle.tables.specs.Tables.{Tables, lengths_of}
 use Rattle.derivations.specs.Shown.{ferp_rules}
-use Rattle.ferp.specs.declared.kinds.Kind.{Kind}
-use Rattle.ferp.specs.Kinds.{letter_kind, kind_of}
+use Rattle.ferp.specs.Kinds.{Kind, Skip, Mapping, Clause, letter_kind, kind_of}
 use Rattle.ferp.specs.Lines.{same_form, judged}
 
 -- a line whose first word is not `x` is read as a clause line
@@ -42,49 +40,38 @@ module _ (bs : List ℕ) (t : Tables) (f : Formula) (s : Derived) where
   line = ferp_rules.judge (limits (lengths_of t)) f s bs
 
   abbrev pub Means : Kind → Type 0
-  Means Kind.Skip = line ≡ rules.next s
-  Means (Kind.Mapping e) = line ≡ judged same_form bs e t f s
-  Means Kind.Clause = line ≡ judged derivation_form bs 0 t f s
+  Means Skip = line ≡ rules.next s
+  Means (Mapping e) = line ≡ judged same_form bs e t f s
+  Means Clause = line ≡ judged derivation_form bs 0 t f s
 
-  abbrev by : Option FerpLine → rules.Step Derived
-  by o = maybe o (rules.refuse 2 s) (judge (limits (lengths_of t)) f s)
-
-  read_as : {ts : List Token} → read_line bs ≡ some ts → line ≡ by (ferp_line ts)
-  unfolding judge_bytes
-  read_as e = ap (λ r. maybe r (rules.next s) (λ ts. by (ferp_line ts))) e
-
-  as_clause : {ts : List Token} → line ≡ by (derivation_form ts) → tokens_from bs 0 ≡ ts → line ≡ judged derivation_form bs 0 t f s
-  unfolding judged
-  as_clause h e = h ∙ ap (λ ts. by (derivation_form ts)) (sym e)
+  abbrev judging : Derived → FerpLine → rules.Step Derived
+  judging = judge (limits (lengths_of t)) f
 
   letter_means : (b e : ℕ) → head_of bs ≡ Head.Letter b e → Means (letter_kind b e)
   unfolding letter_kind judged ferp_line class_of
   letter_means b e h = go (eqb b 120) refl
     where
-      first : line ≡ by (ferp_line (token_of (b ∷ []) ∷ tokens_from bs e))
-      first = let k = head_letter bs h in read_as k.0 ∙ ap (λ ts. by (ferp_line ts)) k.1
+      go : (x : Bool) → eqb b 120 ≡ x → Means (cond x (Mapping e) Clause)
+      go true i = letter_reads ferp_line judging s bs h (eqb-true b 120 i)
+      go false i = letter_plain ferp_line judging s bs derivation_form h (plain_line (b ∷ []) (tokens_from bs e) (other_byte b 120 i))
 
-      go : (x : Bool) → eqb b 120 ≡ x → Means (cond x (Kind.Mapping e) Kind.Clause)
-      go true i = first ∙ ap (λ n. by (ferp_line (token_of (n ∷ []) ∷ tokens_from bs e))) (eqb-true b 120 i)
-      go false i = as_clause (first ∙ ap by (plain_line (b ∷ []) (tokens_from bs e) (other_byte b 120 i))) (head_letter bs h).1
-
-  other_means : head_of bs ≡ Head.Other → Means Kind.Clause
-  other_means h =
-      let k = head_other bs h in
-      as_clause (read_as k.2 ∙ ap (λ ts. by (ferp_line ts)) k.3 ∙ ap by (plain_line k.0 k.1 (one_byte k.0 120 k.4))) k.3
-
-  skip_means : head_of bs ≡ Head.Skipped → Means Kind.Skip
-  unfolding judge_bytes
-  skip_means h = ap (λ r. maybe r (rules.next s) (λ ts. by (ferp_line ts))) (head_skipped bs h)
+  other_means : head_of bs ≡ Head.Other → Means Clause
+  unfolding judged
+  other_means h = other_plain ferp_line judging s bs derivation_form h (λ w ts long. plain_line w ts (one_byte w 120 long))
 
   kind_means : Means (kind_of (head_of bs))
   kind_means = go (head_of bs) refl
     where
       go : (h : Head) → head_of bs ≡ h → Means (kind_of h)
-      go Head.Skipped e = skip_means e
+      go Head.Skipped e = head_skips ferp_line judging s bs e
       go (Head.Letter b e) q = letter_means b e q
       go Head.Other e = other_means e
 
-  -- what a kind says of a line
-  pub means : {k : Kind} → k ≡ kind_of (head_of bs) → {k' : Kind} → k ≡ k' → Means k'
-  means kind e = subst Means (sym kind ∙ e) kind_means
+  -- by the head that the code matches
+  pub head_means : {k : Kind} {h : Head} → head_of bs ≡ h → kind_of h ≡ k → Means k
+  head_means e i = subst Means (ap kind_of e ∙ i) kind_means
+
+-- another letter
+pub plain_letter : (b e : ℕ) → (b ≡ 120 → ⊥) → letter_kind b e ≡ Clause
+unfolding letter_kind
+plain_letter b e x = rw (ne_eqb b 120 x) refl

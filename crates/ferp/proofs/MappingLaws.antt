@@ -6,14 +6,13 @@ use Rattle.rules.specs.declared.Rule.TheVariants.{Malformed}
 use mathlib.Core.Path.{◌≡◌, refl, ap, ap₂, sym, ◌∙◌, subst}
 use mathlib.Core.Bool.{Bool, ◌&&◌}
 use mathlib.Core.List.{List, [], ◌∷◌}
-use mathlib.Core.Option.{Option, none, some}
+use mathlib.Core.Option.{none, some}
 use Prim.Native.Nat.{ℕ, ◌+◌, suc}
 use native.Mathlib.Omega.{arith}
 use lib.Dec.{eqb}
 use lib.ListN.{length}
 use borrow.Author.Tests.{ne_eqb}
 use Rattle.lines.specs.Lists.{all, is_empty}
-use Rattle.lines.specs.Lines.{Token}
 use Rattle.lines.specs.Scan.{tokens_from}
 use Rattle.lists.specs.declared.MappingLists.{MappingLists}
 use Rattle.lists.specs.Lists.{lits_at, mapping_at}
@@ -177,9 +176,3 @@ module _ (bs : List ℕ) (at : ℕ) (p : Progress) (t : Tables) (w : Work) (turn
   pub mapping_next : {m : Mapped} → r ≡ Ok m → {z : Tables} → z ≡ t₁ → Line same_form bs at p t w (Ok (mapped_in p m)) z (noting u.noted)
   mapping_next {m} e g =
       subst (λ z. Line same_form bs at p t w (Ok (mapped_in p m)) z (noting u.noted)) (sym g) (record { steps = subst Steps e mapping_line })
-
--- what is promised of a line, for what was lent
-pub line_lent : {form : List Token → Option FerpLine} {bs : List ℕ} {at : ℕ} {p : Progress} {t : Tables} {w : Work} {r : Result Progress Rule}
-    {u u' : Tables} {v v' : Work} → u ≡ u' → v ≡ v' → Line form bs at p t w r u v → Line form bs at p t w r u' v'
-line_lent {form} {bs} {at} {p} {t} {w} {r} {u} {u'} {v} {v'} e g x =
-    subst (λ v. Line form bs at p t w r u' v) g (subst (λ u. Line form bs at p t w r u v) e x)

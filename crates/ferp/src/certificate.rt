@@ -8,13 +8,13 @@ ghost use Rattle.derivations.proofs.AptLaws.{ferp_apt};
 ghost use Rattle.ferp.specs.Check.{ferp_by_rules, begun};
 
 use crate::clause_lines::clause_line;
-use crate::kinds::{Kind as Line, kind_of};
 use crate::mapping_lines::mapping_line;
 use certificates::{Checker, Kind};
 use clauses::Store;
 use copies::marks::CODES;
 use derivations::{Progress, Work};
 use formula::Reading;
+use lines::Head;
 use mapping::Mapped;
 use reading::{Counts, Ended};
 use rules::Rule;
@@ -36,16 +36,17 @@ impl Kind for Ferp {
 
     ghost apt = { ferp_apt };
 
+    // What a line is, its first word says; one of no other form is read as a clause line.
     fn line(
         line: &[u8],
         p: Progress,
         tables: &mut LentTables,
         work: &mut Work,
     ) -> Result<Progress, Rule> {
-        match kind_of(line) {
-            Line::Skip => Ok(p),
-            Line::Mapping(at) => mapping_line(line, at, p, tables, work),
-            Line::Clause => clause_line(line, p, tables, work),
+        match lines::line_head(line) {
+            Head::Skipped => Ok(p),
+            Head::Letter(b'x', at) => mapping_line(line, at, p, tables, work),
+            _ => clause_line(line, p, tables, work),
         }
     }
 

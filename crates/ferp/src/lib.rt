@@ -4,7 +4,6 @@
 mod certificate;
 mod checking;
 mod clause_lines;
-mod kinds;
 mod mapping_lines;
 
 pub use checking::check;

@@ -47,3 +47,8 @@ module _ {S P W : Type 0} (R : Rules S) (C : Code S P W) where
     line_judged {r} {u} {v} step m x = record {
       steps = λ f s sh l. subst (λ y. Leads R C f p (length bs) t y r u v) (sym (m f s)) (x f s sh l);
     }
+
+  -- what is promised of a line, for the tables and the working memory that were lent
+  pub line_lent : {bs : List ℕ} {p : P} {t : Tables} {w : W} {r : Result P Rule} {u u' : Tables} {v v' : W} → u ≡ u' → v ≡ v'
+      → AnyLine R C bs p t w r u v → AnyLine R C bs p t w r u' v'
+  line_lent {bs} {p} {t} {w} {r} {u' = u'} {v = v} e g x = subst (AnyLine R C bs p t w r u') g (subst (λ u. AnyLine R C bs p t w r u v) e x)

@@ -1,12 +1,13 @@
 use Rattle.std.proofs.Common.{◌≡◌, sym, ◌∙◌, Err, rules}
+use Rattle.rules.specs.declared.Rule.TheVariants.{Malformed}
 use Rattle.tables.specs.Lent.{tables_of}
-use Rattle.ferp.proofs.ClauseLaws.{asked_none, clause_bad, clause_limited, literals_ended, in_buffer, clause_judged}
+use Rattle.ferp.proofs.ClauseLaws.{clause_bad, clause_limited, literals_ended, in_buffer, clause_judged}
 use Rattle.ferp.proofs.clause_lines.clause_line.Goals as goal
 
 pub returns-in_err-d-clause-read : goal.returns-in_err-d-clause-read
 returns-in_err-d-clause-read c =
-    let r : c.from_residual.result ≡ Err c.in_err-d.field-0.0 = search rules in
-    rw (r, asked_none c.in_err-d.ensures.value c.in_err-d.ensures.ok_part) (clause_bad _ _ _ _ _ (sym c.derivation_at.ensures.measured ∙ c.in_err-d.ensures.ok_part) _)
+    let r : c.from_residual.result ≡ Err Malformed = search rules in
+    rw r (clause_bad _ _ _ _ _ (sym c.derivation_at.ensures.measured ∙ c.in_err-d.ensures.ok_part) _)
 
 pub returns-in_err-limit_broken-clause-read : goal.returns-in_err-limit_broken-clause-read
 returns-in_err-limit_broken-clause-read c =

@@ -1,34 +1,60 @@
-use Rattle.std.proofs.Common.{refl, sym}
+use Rattle.std.proofs.Common.{refl, ap, sym, ◌∙◌}
 use Rattle.rules.specs.Forms.{mapping_form, hints_form, clause_form, expansion, addition, deletion}
 use Rattle.tables.specs.Lent.{tables_of}
+use Rattle.reading.proofs.LineLaws.{line_lent}
 use Rattle.reading.proofs.MappingLaws.{map_lent}
-use Rattle.ferat.proofs.LentLaws.{three_lent, among_lent, beside_lent, line_lent}
-use Rattle.ferat.proofs.LineLaws.{means, line_skipped, line_formed}
+use Rattle.progress.specs.Shown.{ferat_rules, ferat_code}
+use Rattle.ferat.specs.Kinds.{letter_kind}
+use Rattle.ferat.proofs.KindLaws.{head_means, plain_letter}
+use Rattle.ferat.proofs.LentLaws.{three_lent, among_lent, beside_lent}
+use Rattle.ferat.proofs.LineLaws.{line_skipped, line_formed}
 use Rattle.ferat.proofs.certificate.FeratKind.line.Goals as goal
+use Rattle.ferat.proofs.certificate.FeratKind.line.Goals.{in_default-via-in-Letter+in_default, in_default-via-in_default}
 
-pub returns-in-Skip-clause-read : goal.returns-in-Skip-clause-read
-returns-in-Skip-clause-read c = line_skipped (λ f s. means _ c.kind_of.ensures (tables_of c.args.tables.now) f s c.in-Skip.is)
+pub returns-in-Skipped-clause-read : goal.returns-in-Skipped-clause-read
+returns-in-Skipped-clause-read c = line_skipped (λ f s. head_means _ (tables_of c.args.tables.now) f s (sym c.line_head.ensures ∙ c.in-Skipped.is) refl)
 
-pub returns-in-Mapping-clause-read : goal.returns-in-Mapping-clause-read
-returns-in-Mapping-clause-read c =
-    line_formed mapping_form _ (λ f s. means _ c.kind_of.ensures _ f s c.in-Mapping.is)
-    (line_lent (map_lent (tables_of c.args.tables.now) (tables_of c.mapping_line.new.tables) c.mapping_line.ensures.rest) (sym c.mapping_line.ensures.noted) (c.mapping_line.ensures.read (tables_of c.args.tables.now) c.args.work.now))
+pub returns-in-Letter-eq120-default-clause-read : goal.returns-in-Letter-eq120-default-clause-read
+unfolding letter_kind
+returns-in-Letter-eq120-default-clause-read c =
+    let h = c.in-Letter-eq120-default in
+    let x = c.mapping_line.ensures in
+    let t = tables_of c.args.tables.now in
+    line_lent ferat_rules ferat_code (map_lent t (tables_of c.mapping_line.new.tables) x.rest) (sym x.noted)
+    (line_formed mapping_form _ (λ f s. head_means _ _ f s (sym c.line_head.ensures ∙ h.is) (ap (λ b. letter_kind b h.at) h.field-0-test)) (x.read t c.args.work.now))
 
-pub returns-in-Hints-clause-read : goal.returns-in-Hints-clause-read
-returns-in-Hints-clause-read c =
-    line_formed hints_form _ (λ f s. means _ c.kind_of.ensures _ f s c.in-Hints.is)
-    (line_lent (sym c.hints_line.ensures.rest) refl (c.hints_line.ensures.read (tables_of c.args.tables.now) c.args.work.now))
+pub returns-in-Letter-eq111-default-clause-read : goal.returns-in-Letter-eq111-default-clause-read
+unfolding letter_kind
+returns-in-Letter-eq111-default-clause-read c =
+    let h = c.in-Letter-eq111-default in
+    let x = c.hints_line.ensures in
+    let t = tables_of c.args.tables.now in
+    line_lent ferat_rules ferat_code (sym x.rest) refl
+    (line_formed hints_form _ (λ f s. head_means _ _ f s (sym c.line_head.ensures ∙ h.is) (ap (λ b. letter_kind b h.at) h.field-0-test)) (x.read t c.args.work.now))
 
-pub returns-in-Expansion-clause-read : goal.returns-in-Expansion-clause-read
-returns-in-Expansion-clause-read c =
-    line_formed (clause_form expansion) _ (λ f s. means _ c.kind_of.ensures _ f s c.in-Expansion.is) c.expansion_line.ensures.read
+pub returns-in-Letter-eq101-default-clause-read : goal.returns-in-Letter-eq101-default-clause-read
+unfolding letter_kind
+returns-in-Letter-eq101-default-clause-read c =
+    let h = c.in-Letter-eq101-default in
+    let x = c.expansion_line.ensures in
+    line_formed (clause_form expansion) _ (λ f s. head_means _ _ f s (sym c.line_head.ensures ∙ h.is) (ap (λ b. letter_kind b h.at) h.field-0-test)) x.read
 
-pub returns-in-Deletion-clause-read : goal.returns-in-Deletion-clause-read
-returns-in-Deletion-clause-read c =
-    line_formed (clause_form deletion) _ (λ f s. means _ c.kind_of.ensures _ f s c.in-Deletion.is)
-    (line_lent (among_lent (tables_of c.args.tables.now) (tables_of c.deletion_line.new.tables) c.deletion_line.ensures.marks) (beside_lent c.args.work.now c.deletion_line.new.work c.deletion_line.ensures.trail) (c.deletion_line.ensures.read (tables_of c.args.tables.now) c.args.work.now))
+pub returns-in-Letter-eq100-default-clause-read : goal.returns-in-Letter-eq100-default-clause-read
+unfolding letter_kind
+returns-in-Letter-eq100-default-clause-read c =
+    let h = c.in-Letter-eq100-default in
+    let x = c.deletion_line.ensures in
+    let t = tables_of c.args.tables.now in
+    line_lent ferat_rules ferat_code (among_lent t (tables_of c.deletion_line.new.tables) x.marks) (beside_lent c.args.work.now c.deletion_line.new.work x.trail)
+    (line_formed (clause_form deletion) _ (λ f s. head_means _ _ f s (sym c.line_head.ensures ∙ h.is) (ap (λ b. letter_kind b h.at) h.field-0-test)) (x.read t c.args.work.now))
 
-pub returns-in-Addition-clause-read : goal.returns-in-Addition-clause-read
-returns-in-Addition-clause-read c =
-    line_formed (clause_form addition) 0 (λ f s. means _ c.kind_of.ensures _ f s c.in-Addition.is)
-    (line_lent (three_lent (tables_of c.args.tables.now) (tables_of c.addition_line.new.tables) c.addition_line.ensures.rest) (sym c.addition_line.ensures.work) (c.addition_line.ensures.read (tables_of c.args.tables.now) c.args.work.now))
+pub returns-in_default-clause-read : goal.returns-in_default-clause-read
+returns-in_default-clause-read c =
+    let x = c.addition_line.ensures in
+    let t = tables_of c.args.tables.now in
+    line_lent ferat_rules ferat_code (three_lent t (tables_of c.addition_line.new.tables) x.rest) (sym x.work)
+    (line_formed (clause_form addition) 0 (λ f s. elim c.in_default.branch [
+      | in_default-via-in-Letter+in_default w ↦
+          let n = w.in_default.field-0-test in head_means _ _ f s (sym w.in_default.ensures) (plain_letter _ _ n.0.0.0.1 n.0.0.1 n.0.1 n.1)
+      | in_default-via-in_default w ↦ head_means _ _ f s (sym c.line_head.ensures ∙ w.in_default.is) refl
+    ]) (x.read t c.args.work.now))
