@@ -12,11 +12,7 @@ use lines::{Head, Lines, Literals};
 fn in_tokens(line: &[u8]) -> u32
     ensures { result ≡ largest (tokens_from line.now 0) }
 {
-    let mut most = 0;
-    for (x, _) in Literals::new(line, 0) {
-        most = x.max(most);
-    }
-    most
+    Literals::new(line, 0).fold(0, |most, (x, _)| x.max(most))
 }
 
 fn in_line(line: &[u8]) -> u32
@@ -29,14 +25,9 @@ fn in_line(line: &[u8]) -> u32
     }
 }
 
-#[tactic(auto, unfolding(crate::specs::Largest::in_lines))]
 #[unsafe(no_mangle)]
 pub extern "C" fn hutsvida_largest(file: &[u8]) -> u32
     ensures { result ≡ in_lines (lines_of file.now) }
 {
-    let mut most = 0;
-    for line in Lines::new(file) {
-        most = in_line(line).max(most);
-    }
-    most
+    Lines::new(file).fold(0, |most, line| in_line(line).max(most))
 }
