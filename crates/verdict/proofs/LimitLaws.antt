@@ -2,7 +2,7 @@
 use mathlib.Core.Path.{◌≡◌, refl, ap, sym, ◌∙◌, subst}
 use mathlib.Core.Bool.{Bool, true, false, cond}
 use mathlib.Core.List.{List}
-use Prim.Native.Nat.{ℕ, suc, min, ◌≤◌, ◌<◌}
+use Prim.Native.Nat.{ℕ, min, ◌≤◌, ◌<◌}
 use native.Mathlib.Omega.{arith}
 use lib.Dec.{leb}
 use lib.ListN.{length, take, length-take}
@@ -26,6 +26,7 @@ use Rattle.ferat.specs.Check.{CheckedIn}
 use Rattle.tables.proofs.Frames.{all_self}
 use Rattle.report.specs.Fields.{Rendered}
 use Rattle.verdict.specs.Program.{ReportedIn, Loaded, Printed}
+use Rattle.verdict.specs.declared.Contents.{Contents}
 
 -- THE LINES OF A FILE are judged alike whatever bytes a file may have
 module _ (f c g d : ℕ) (l : Places) where
@@ -87,63 +88,59 @@ module _ (bs cs : List ℕ) where
       unfolding verdict
       held q r u h = told r u (check (limits (lengths_of t)) bs cs) (within p q (lengths_of t)) h.report h.kept
 
--- TWO FILES THAT BEGIN WITH THE SAME n + 1 BYTES are both longer than n, or the same
-module _ (n : ℕ) (bs ds : List ℕ) (h : take (suc n) bs ≡ take (suc n) ds) where
-  lengths_alike : min (suc n) (length bs) ≡ min (suc n) (length ds)
-  lengths_alike = sym (length-take (suc n) bs) ∙ ap length h ∙ length-take (suc n) ds
-
-  both_longer : n < length bs → leb (length ds) n ≡ false
-  both_longer k = lt-leb (length ds) n (omega (arith, lengths_alike))
-
-  same : length bs ≤ n → bs ≡ ds
-  same k =
-      let a : length bs ≤ suc n = omega arith in
-      let b : length ds ≤ suc n = omega (arith, lengths_alike) in
-      sym (take_all (suc n) bs a) ∙ h ∙ take_all (suc n) ds b
-
--- THE PROGRAM'S CHECK sees no byte after the first that is too many
-begin_alike : (l : Places) (bs cs ds es : List ℕ) → take 16385 bs ≡ take 16385 ds → take 65537 cs ≡ take 65537 es
-    → check (program_limits l) bs cs ≡ check (program_limits l) ds es
-begin_alike l bs cs ds es h k = go (leb (length bs) 16384) (leb (length cs) 65536) refl refl
-  where
-    formula_same : leb (length bs) 16384 ≡ true → bs ≡ ds
-    formula_same p = same 16384 bs ds h (leb-true (length bs) 16384 p)
-
-    go : (a b : Bool) → leb (length bs) 16384 ≡ a → leb (length cs) 65536 ≡ b → check (program_limits l) bs cs ≡ check (program_limits l) ds es
-    go true true p q = λ i. check (program_limits l) (formula_same p i) (same 65536 cs es k (leb-true (length cs) 65536 q) i)
-    go true false p q =
-        tested bs cs 16384 65536 l true false p q
-        ∙ sym (tested ds es 16384 65536 l true false (ap (λ x. leb (length x) 16384) (sym (formula_same p)) ∙ p)
-        (both_longer 65536 cs es k (leb-false (length cs) 65536 q)))
-    go false b p q =
-        tested bs cs 16384 65536 l false b p q
-        ∙ sym (tested ds es 16384 65536 l false (leb (length es) 65536) (both_longer 16384 bs ds h (leb-false (length bs) 16384 p)) refl)
-
 -- WHAT IS LOADED begins as the file does
-begins : (buffer : List ℕ) (count : ℕ) (file : List ℕ) {n : ℕ} → length buffer ≡ n → Loaded buffer count file → take n (take count buffer) ≡ take n file
-begins buffer count file e h =
-    let s : length (take count buffer) ≤ length buffer = omega (arith, length-take count buffer) in
-    ap (λ m. take m (take count buffer)) (sym e) ∙ take_all (length buffer) (take count buffer) s ∙ h ∙ ap (λ m. take m file) e
+begins : (buffer : List ℕ) (count : ℕ) (file : List ℕ) → Loaded buffer count file → take (length buffer) (take count buffer) ≡ take (length buffer) file
+begins buffer count file h = take_all (length buffer) (take count buffer) (omega (arith, length-take count buffer)) ∙ h
 
 -- every buffer and count are those of some file
 pub loaded_itself : (buffer : List ℕ) (count : ℕ) → Loaded buffer count (take count buffer)
 loaded_itself buffer count = sym (take_all (length buffer) (take count buffer) (omega (arith, length-take count buffer)))
 
+-- TWO FILES THAT BEGIN WITH THE SAME k BYTES, more than n, are both longer than n, or the same
+module _ (n k : ℕ) (room : n < k) (bs ds : List ℕ) (h : take k bs ≡ take k ds) where
+  lengths_alike : min k (length bs) ≡ min k (length ds)
+  lengths_alike = sym (length-take k bs) ∙ ap length h ∙ length-take k ds
+
+  both_longer : n < length bs → leb (length ds) n ≡ false
+  both_longer g = lt-leb (length ds) n (omega (arith, lengths_alike))
+
+  same : length bs ≤ n → bs ≡ ds
+  same g = sym (take_all k bs (omega arith)) ∙ h ∙ take_all k ds (omega (arith, lengths_alike))
+
+-- THE PROGRAM'S CHECK sees no byte after the first that is too many
+begin_alike : (l : Places) {n m : ℕ} → 16384 < n → 65536 < m → (bs cs ds es : List ℕ) → take n bs ≡ take n ds → take m cs ≡ take m es
+    → check (program_limits l) bs cs ≡ check (program_limits l) ds es
+begin_alike l {n} {m} f c bs cs ds es h k = go (leb (length bs) 16384) (leb (length cs) 65536) refl refl
+  where
+    formula_same : leb (length bs) 16384 ≡ true → bs ≡ ds
+    formula_same p = same 16384 n f bs ds h (leb-true (length bs) 16384 p)
+
+    go : (a b : Bool) → leb (length bs) 16384 ≡ a → leb (length cs) 65536 ≡ b → check (program_limits l) bs cs ≡ check (program_limits l) ds es
+    go true true p q = λ i. check (program_limits l) (formula_same p i) (same 65536 m c cs es k (leb-true (length cs) 65536 q) i)
+    go true false p q =
+        tested bs cs 16384 65536 l true false p q
+        ∙ sym (tested ds es 16384 65536 l true false (ap (λ x. leb (length x) 16384) (sym (formula_same p)) ∙ p)
+        (both_longer 65536 m c cs es k (leb-false (length cs) 65536 q)))
+    go false b p q =
+        tested bs cs 16384 65536 l false b p q
+        ∙ sym (tested ds es 16384 65536 l false (leb (length es) 65536) (both_longer 16384 n f bs ds h (leb-false (length bs) 16384 p)) refl)
+
 -- the report on what is loaded is the report on the files
-reported : (formula certificate : List ℕ) (f c : ℕ) (t : Tables) (r : Report) (u : Tables) → length formula ≡ 16385 → length certificate ≡ 65537
+reported : (formula certificate : List ℕ) (f c : ℕ) (t : Tables) (r : Report) (u : Tables) → 16384 < length formula → 65536 < length certificate
     → ReportedIn (take f formula) (take c certificate) t r u → (x y : List ℕ) → Loaded formula f x → Loaded certificate c y → ReportedIn x y t r u
 unfolding verdict
 reported formula certificate f c t r u a b h x y p q =
     told x y t r u (check (program_limits (lengths_of t)) (take f formula) (take c certificate))
-    (begin_alike (lengths_of t) (take f formula) (take c certificate) x y (begins formula f x a p) (begins certificate c y b q)) h.report h.kept
+    (begin_alike (lengths_of t) a b (take f formula) (take c certificate) x y (begins formula f x p) (begins certificate c y q)) h.report h.kept
 
 -- THE LINE TO PRINT, from the report on what is loaded
-pub printed : (formula certificate : List ℕ) (f c : ℕ) (t : Tables) (r : Report) (u : Tables) {out exit : List ℕ} {k : ℕ} → length formula ≡ 16385
-    → length certificate ≡ 65537 → lengths_of t ≡ places 16384 16384 16384 16384 16384 16384 → (bs cs : List ℕ) → bs ≡ take f formula
-    → cs ≡ take c certificate → ReportedIn bs cs t r u → Rendered r out exit k → Printed formula f certificate c t out u exit k
-printed formula certificate f c t r u a b l bs cs d e h w = record {
+pub printed : {n m : ℕ} (formula : Contents n) (certificate : Contents m) (t : Tables) (r : Report) (u : Tables) {out exit bs cs : List ℕ} {k : ℕ}
+    → 16384 < length formula.bytes → 65536 < length certificate.bytes → lengths_of t ≡ places 16384 16384 16384 16384 16384 16384
+    → bs ≡ take formula.count formula.bytes → cs ≡ take certificate.count certificate.bytes → ReportedIn bs cs t r u → Rendered r out exit k
+    → Printed formula certificate t out u exit k
+printed formula certificate t r u a b l d e h w = record {
   report = r;
-  reported = reported formula certificate f c t r u a b (subst (λ x. ReportedIn x (take c certificate) t r u) d (subst (λ x. ReportedIn bs x t r u) e h));
+  reported = reported formula.bytes certificate.bytes formula.count certificate.count t r u a b (rw (d, e) at h);
   rendered = w;
   lengths = l;
 }

@@ -9,6 +9,7 @@ use Rattle.rules.specs.declared.Report.{Report}
 use Rattle.tables.specs.Tables.{Tables, tables, lengths_of, KeptAll}
 use Rattle.report.specs.Fields.{Rendered}
 use Rattle.verdict.specs.declared.Held.{Held}
+use Rattle.verdict.specs.declared.Contents.{Contents}
 
 -- THE REPORT on two files, t being the tables before and u after
 pub record ReportedIn (formula certificate : List ℕ) (t : Tables) (r : Report) (u : Tables) : Type 0 where
@@ -32,9 +33,9 @@ Loaded buffer count file = take count buffer ≡ take (length buffer) file
 -- THE LINE TO PRINT, whatever two files the buffers were loaded from, and however long these are: that of the report on them. `out` and `exit`
 -- are the bytes before and after, of which the first k are the line.
 pub record Printed
-    (formula : List ℕ) (f : ℕ) (certificate : List ℕ) (c : ℕ) (t : Tables) (out : List ℕ) (u : Tables) (exit : List ℕ) (k : ℕ) : Type 0 where
+    {n m : ℕ} (formula : Contents n) (certificate : Contents m) (t : Tables) (out : List ℕ) (u : Tables) (exit : List ℕ) (k : ℕ) : Type 0 where
   pub report : Report
-  pub reported : (x y : List ℕ) → Loaded formula f x → Loaded certificate c y → ReportedIn x y t report u
+  pub reported : (x y : List ℕ) → Loaded formula.bytes formula.count x → Loaded certificate.bytes certificate.count y → ReportedIn x y t report u
   pub rendered : Rendered report out exit k
   -- "uses tables of 16,384 zeros each"
   pub lengths : lengths_of t ≡ places 16384 16384 16384 16384 16384 16384

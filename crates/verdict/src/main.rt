@@ -21,16 +21,35 @@ const CERTIFICATE: usize = 65536;
 // Each of its tables has so many places.
 const PLACES: usize = 16384;
 
-// Reads a file from its start and answers how many bytes; one that does not open, or cannot be read, is empty. Where a read fails part way,
-// the bytes read so far count.
-fn load(files: &impl Files, path: &str, bytes: &mut [u8]) -> usize
-    ensures { result ≤ length bytes.new }
-{
-    let Ok(mut file) = fs::open(files, path) else {
-        return 0;
-    };
-    let (count, _) = read_full(&mut file, bytes);
-    count
+// What is loaded of a file: so many bytes at the start of a buffer.
+#[derive(Drop)]
+struct Contents<const N: usize> {
+    bytes: [u8; N],
+    count: usize,
+}
+
+impl<const N: usize> Contents<N> {
+    // Loads a file from its start; one that does not open, or cannot be read, is empty. Where a read fails part way, the bytes read so far
+    // count.
+    fn load(files: &impl Files, path: &str) -> Contents<N>
+        ensures { result.count ≤ N }
+    {
+        let mut contents = Contents {
+            bytes: [0; N],
+            count: 0,
+        };
+        if let Ok(mut file) = fs::open(files, path) {
+            (contents.count, _) = read_full(&mut file, &mut contents.bytes);
+        }
+        contents
+    }
+
+    // The bytes that are loaded.
+    fn loaded(&self) -> &[u8]
+        ensures { result.now ≡ take self.now.count self.now.bytes }
+    {
+        self.bytes.get(..self.count).unwrap_or(&self.bytes)
+    }
 }
 
 // Reads until the bytes are full, the reader ends or a read fails, and answers how many bytes it put at their start, and the failure.
@@ -65,16 +84,6 @@ fn report_of(formula: &[u8], certificate: &[u8], tables: &mut LentTables) -> Rep
     ferat::check(formula, certificate, tables)
 }
 
-// The first bytes of a buffer, or all of it if it has no more.
-fn first(buffer: &[u8], count: usize) -> &[u8]
-    ensures { result.now ≡ take count buffer.now }
-{
-    if buffer.len() < count {
-        return buffer;
-    }
-    &buffer[0..count]
-}
-
 // The six tables of the program.
 #[derive(Drop)]
 struct Held {
@@ -86,20 +95,16 @@ struct Held {
     values: [i32; PLACES],
 }
 
-// THE LINE TO PRINT for two files of which so many bytes are loaded, written to `out`; the answer is the count of its bytes. Each buffer
-// has room for one byte more than the program holds, which tells a longer file.
+// THE LINE TO PRINT for two files of which the contents are loaded, written to `out`; the answer is the count of its bytes. Each buffer has
+// room for one byte more than the program holds, which tells a longer file.
 fn verdict_line(
-    formula: &[u8; 16385],
-    f: usize,
-    certificate: &[u8; 65537],
-    c: usize,
+    formula: &Contents<16385>,
+    certificate: &Contents<65537>,
     held: &mut Held,
     out: &mut [u8; 96],
 ) -> usize
-    ensures { Printed formula.now f certificate.now c (held_in held.old) out.old (held_in held.new) out.new result }
+    ensures { Printed formula.now certificate.now (held_in held.old) out.old (held_in held.new) out.new result }
 {
-    let formula_bytes = first(formula, f);
-    let certificate_bytes = first(certificate, c);
     let mut tables = LentTables {
         prefix: &mut held.prefix,
         matrix: &mut held.matrix,
@@ -108,13 +113,13 @@ fn verdict_line(
         marks: &mut held.marks,
         values: &mut held.values,
     };
-    let r = report_of(formula_bytes, certificate_bytes, &mut tables);
+    let r = report_of(formula.loaded(), certificate.loaded(), &mut tables);
     report::render_report(r, out)
 }
 
 fn main(rt: HostRuntime) -> io::Result<()> {
-    let mut formula = [0; 16385];
-    let mut certificate = [0; 65537];
+    let formula = Contents::load(&rt, "formula.qdimacs");
+    let certificate = Contents::load(&rt, "proof.ferat");
     let mut held = Held {
         prefix: [0; PLACES],
         matrix: [0; PLACES],
@@ -124,8 +129,6 @@ fn main(rt: HostRuntime) -> io::Result<()> {
         values: [0; PLACES],
     };
     let mut line = [0; 96];
-    let f = load(&rt, "formula.qdimacs", &mut formula);
-    let c = load(&rt, "proof.ferat", &mut certificate);
-    let n = verdict_line(&formula, f, &certificate, c, &mut held, &mut line);
+    let n = verdict_line(&formula, &certificate, &mut held, &mut line);
     rt.write_all(&line[0..n])
 }
