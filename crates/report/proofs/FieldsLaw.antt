@@ -4,15 +4,16 @@ use mathlib.Core.List.{List, [], ◌∷◌, ◌++◌, append_assoc, append-nil}
 use Prim.Native.Nat.{ℕ, ◌+◌, ◌*◌, ◌<◌, ◌≤◌}
 use native.Mathlib.Omega.{arith}
 use native.Mathlib.Numerals.{add-one}
-use lib.ListN.{length, take, drop, get_or, length-take}
-use lib.Seq.{take-suc}
+use lib.ListN.{length, take, drop, get_or, length-take, length-append}
+use lib.Seq.{take-suc, take-append_seam, drop-append_seam}
 use Rattle.rules.specs.Render.{word_of, render}
 use Rattle.rules.specs.declared.Verdict.{Verdict}
 use Rattle.rules.specs.declared.Verdict.TheVariants.{Accepted, Refused}
 use Rattle.rules.specs.declared.Report.{Report}
 use Rattle.report.specs.Fields.{word_number, seven_of, Rendered}
-use Rattle.report.specs.Written.{Written, numeral, after_commas}
-use Rattle.report.proofs.Writing.{written_then, written_as}
+use Rattle.report.specs.declared.Line.{Line}
+use Rattle.report.specs.Written.{Adds, text_of, numeral, after_commas}
+use Rattle.report.proofs.Writing.{adds_then, adds_as}
 
 -- a place that nothing was written to, and was cleared before, is no word; accepted is 1 alone
 pub word_written : (v : Verdict) → 1 ≤ word_number v
@@ -22,15 +23,6 @@ word_written (Refused number file line) = omega arith
 pub one_accepted : (v : Verdict) → word_number v ≡ 1 → v ≡ Accepted
 one_accepted Accepted e = refl
 one_accepted (Refused number file line) e = absurd (omega (arith, e))
-
-pub seven_accepted : (r : Report) → r.verdict ≡ Accepted → 1 ∷ 0 ∷ 0 ∷ 0 ∷ r.expansions ∷ r.additions ∷ r.deletions ∷ [] ≡ seven_of r
-unfolding seven_of
-seven_accepted r e = rw e
-
-pub seven_refused : (r : Report) {number file line : ℕ} → r.verdict ≡ Refused number file line
-    → 2 ∷ number ∷ file ∷ line ∷ r.expansions ∷ r.additions ∷ r.deletions ∷ [] ≡ seven_of r
-unfolding seven_of
-seven_refused r e = rw e
 
 after_one_more : (ns : List ℕ) (n : ℕ) → after_commas (ns ++ (n ∷ [])) ≡ after_commas ns ++ (44 ∷ numeral n)
 unfolding after_commas
@@ -56,15 +48,17 @@ render_is : (r : Report) {s : List ℕ} → s ≡ seven_of r → word_of r.verdi
 unfolding seven_of after_commas numeral render
 render_is r e = rw e (simp append-nil)
 
--- the word, the six numbers and byte 10
-pub rendered : (r : Report) {s a b c d : List ℕ} {w k m : ℕ} → s ≡ seven_of r → Written a 0 (word_of r.verdict) b w
-    → Written b w (after_commas (six s)) c k × (k ≤ w + 11 * length (six s)) → Written c k (10 ∷ []) d m → Rendered r a d m
-rendered r e f g h =
-    let all = written_then (written_as (render_is r e) (written_then f g.0)) h in
+-- the word, the six numbers and byte 10, and then their copy at the start of `entry`
+pub rendered : (r : Report) {s w entry : List ℕ} {l m n k : Line} → s ≡ seven_of r → l.end ≡ 0 → w ≡ word_of r.verdict → Adds l w m
+    → Adds m (after_commas (six s)) n × (n.end ≤ m.end + 11 * length (six s)) → Adds n (10 ∷ []) k
+    → Rendered r entry (text_of k ++ drop (length (text_of k)) entry) (length (text_of k))
+rendered r {entry = entry} {l = l} {k = k} e z o f g h =
+    let all = adds_then (adds_as (render_is r e) (adds_then (adds_as o f) g.0)) h in
+    let text : text_of k ≡ render r ++ (10 ∷ []) = all.text ∙ ap (λ n. take n l.bytes ++ (render r ++ (10 ∷ []))) z in
     record {
-      room = omega (arith, word_short r.verdict, six_long r e, f.next, g.1, h.next);
-      within = omega (arith, all.next, simp length-take at (ap length all.front));
-      count = omega (arith, all.next);
-      bytes = all.front;
-      rest = all.rest;
+      room = omega (arith, ap length o, word_short r.verdict, six_long r e, f.next, g.1, h.next, length-take k.end k.bytes);
+      within = omega (arith, length-append (text_of k) (drop (length (text_of k)) entry));
+      count = ap length text;
+      bytes = take-append_seam (text_of k) (drop (length (text_of k)) entry) ∙ text;
+      rest = drop-append_seam (text_of k) (drop (length (text_of k)) entry);
     }

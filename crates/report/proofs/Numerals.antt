@@ -50,6 +50,9 @@ numeral_more n h e =
     ∙ ap (λ ds. ds ++ ((48 + n % 10) ∷ [])) (digits_fuel (suc (n / 10)) n (n / 10) (omega arith) (omega arith))
     ∙ sym (digits_more n n h)
 
+pub one_long : (n : ℕ) → n < 10 → length (numeral n) ≡ 1
+one_long n h = ap length (sym (numeral_one n h refl))
+
 pub numeral_longer : (n : ℕ) → 10 ≤ n → length (numeral n) ≡ length (numeral (n / 10)) + 1
 numeral_longer n h = ap length (sym (numeral_more n h refl)) ∙ length-append (numeral (n / 10)) ((48 + n % 10) ∷ [])
 

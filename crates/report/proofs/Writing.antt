@@ -1,31 +1,20 @@
--- Laws of what was written: a byte, one piece after another. Assumes nothing.
-use mathlib.Core.Path.{◌≡◌, refl, sym, ap, ◌∙◌}
-use mathlib.Core.List.{List, [], ◌∷◌, ◌++◌, append_assoc, append-nil}
-use Prim.Native.Nat.{ℕ, ◌+◌, ◌<◌}
-use native.Mathlib.Numerals.{add-one}
+-- Laws of what was written: one piece after another. Assumes nothing.
+use mathlib.Core.Path.{◌≡◌, sym, ap, ◌∙◌}
+use mathlib.Core.List.{List, [], ◌++◌, append_assoc, append-nil}
+use Prim.Native.Nat.{ℕ, ◌+◌}
 use native.Mathlib.Omega.{arith}
-use lib.ListN.{length, take, drop, set, length-append, length-set}
-use lib.Seq.{take-suc-set, drop-set-lt, drop-drop}
-use Rattle.report.specs.Written.{Written}
+use lib.ListN.{length, length-append}
+use Rattle.report.specs.declared.Line.{Line}
+use Rattle.report.specs.Written.{Adds, text_of}
 
-pub written_none : (a : List ℕ) (at : ℕ) → Written a at [] a at
-written_none a at = record { next = omega arith; same = refl; front = sym (append-nil (take at a)); rest = refl }
+pub adds_none : (l : Line) → Adds l [] l
+adds_none l = record { next = omega arith; text = sym (append-nil (text_of l)) }
 
-pub written_byte : (a : List ℕ) (at b : ℕ) → at < length a → Written a at (b ∷ []) (set a at b) (at + 1)
-written_byte a at b h = record { next = refl; same = length-set a at b; front = rw (add-one, take-suc-set); rest = drop-set-lt (at + 1) a at b (omega arith) }
-
--- lists that are the same from a place on are so from a later place on
-further : (a b : List ℕ) (k m n : ℕ) → m ≡ k + n → drop k b ≡ drop k a → drop m b ≡ drop m a
-further a b k m n e h =
-    ap (λ p. drop p b) e ∙ sym (drop-drop n k b) ∙ ap (drop n) h ∙ drop-drop n k a ∙ ap (λ p. drop p a) (sym e)
-
-pub written_then : {a b c bs cs : List ℕ} {at k m : ℕ} → Written a at bs b k → Written b k cs c m → Written a at (bs ++ cs) c m
-written_then {a} {b} {c} {bs} {cs} {at} {k} {m} f g = record {
-  next = omega (arith, length-append bs cs);
-  same = g.same ∙ f.same;
-  front = g.front ∙ ap (λ l. l ++ cs) f.front ∙ append_assoc (take at a) bs cs;
-  rest = g.rest ∙ further a b k m (length cs) g.next f.rest;
+pub adds_then : {l m n : Line} {bs cs : List ℕ} → Adds l bs m → Adds m cs n → Adds l (bs ++ cs) n
+adds_then {l} {bs = bs} {cs = cs} f g = record {
+  next = omega (arith, f.next, g.next, length-append bs cs);
+  text = g.text ∙ ap (λ t. t ++ cs) f.text ∙ append_assoc (text_of l) bs cs;
 }
 
-pub written_as : {a b bs cs : List ℕ} {at k : ℕ} → bs ≡ cs → Written a at bs b k → Written a at cs b k
-written_as {a} {b} {bs} {cs} {at} {k} e f = record { next = f.next ∙ ap (λ l. at + length l) e; same = f.same; front = f.front ∙ ap (λ l. take at a ++ l) e; rest = f.rest }
+pub adds_as : {l m : Line} {bs cs : List ℕ} → bs ≡ cs → Adds l bs m → Adds l cs m
+adds_as {l} e f = record { next = f.next ∙ ap (λ b. l.end + length b) e; text = f.text ∙ ap (λ b. text_of l ++ b) e }

@@ -1,13 +1,16 @@
--- What the functions inside write, and what each leaves. Assumes nothing.
-use Rattle.std.specs.Prelude.{◌≡◌, List, [], ◌∷◌, ◌++◌, ℕ, ◌+◌, length, take, drop}
+-- What the functions inside write. Assumes nothing.
+use Rattle.std.specs.Prelude.{◌≡◌, List, [], ◌∷◌, ◌++◌, ℕ, ◌+◌, length, take}
 use Rattle.rules.specs.Render.{decimal}
+use Rattle.report.specs.declared.Line.{Line}
 
--- `bytes` stand from the place `at` on, after what stood before it, and k is the place after them; from there on all is as it was
-pub record Written (entry : List ℕ) (at : ℕ) (bytes exit : List ℕ) (k : ℕ) : Type 0 where
-  pub next : k ≡ at + length bytes
-  pub same : length exit ≡ length entry
-  pub front : take k exit ≡ take at entry ++ bytes
-  pub rest : drop k exit ≡ drop k entry
+-- what is written of a line
+abbrev pub text_of : Line → List ℕ
+text_of l = take l.end l.bytes
+
+-- the line m is the line l with `bytes` behind
+pub record Adds (l : Line) (bytes : List ℕ) (m : Line) : Type 0 where
+  pub next : m.end ≡ l.end + length bytes
+  pub text : text_of m ≡ text_of l ++ bytes
 
 -- the number in base ten, as a name that stays shut
 unfoldable pub numeral : ℕ → List ℕ
