@@ -3,7 +3,7 @@ use mathlib.Core.Path.{◌≡◌, refl, ap, ap₂, sym, ◌∙◌, subst}
 use mathlib.Core.Bool.{cond}
 use mathlib.Core.List.{List, [], ◌∷◌, ◌++◌, map, append_assoc, append-nil}
 use mathlib.Core.Option.{none as nothing, some}
-use Rattle.std.specs.Prelude.{Option, Some, None}
+use Rattle.std.specs.Prelude.{Option, Some, None, MatchOption, replicate}
 use Prim.Native.Nat.{ℕ, suc, ◌+◌, ◌*◌, ◌-◌, ◌<◌, ◌≤◌}
 use native.Mathlib.Omega.{arith}
 use native.Mathlib.Numerals.{add-one}
@@ -18,7 +18,7 @@ use Rattle.tables.proofs.Frames.{same_lengths}
 use Rattle.tables.specs.Checked.{CheckedBy}
 use Rattle.checks.specs.Runs.{Job, ferat, ferp, rules_of, range_of, Runs, none, more}
 use Rattle.checks.specs.All.{clamped, part, job_of, job_in, asked_from, asked, Entry, ran, passed, asked_by, jobs_in, reports_in, seven_in, numbers_in, over, CheckedAll}
-use Rattle.checks.specs.One.{RanAs, seven_by, Leaves, One}
+use Rattle.checks.specs.One.{RanAs, Leaves, One}
 use Rattle.checks.proofs.Runs.{demand_3}
 
 -- a run leaves the lengths of the tables
@@ -112,16 +112,11 @@ pub ran_none : (f c : List ℕ) (t : Tables) {k : ℕ} → (k ≡ 1 → ⊥) →
 unfolding job_of
 ran_none f c t {k} y z = (ap₂ (λ a b. cond a (some (ferat f c)) (cond b (some (ferp f c)) nothing)) (ne_eqb k 1 y) (ne_eqb k 2 z), refl)
 
--- seven numbers, and one check with them
-pub seven_long : (r : Option Report) → length (seven_by r) ≡ 7
-unfolding seven_of
-seven_long (Some r) = refl
-seven_long None = refl
-
-pub one : (kind : ℕ) (f c : List ℕ) {t u : Tables} {out exit ns : List ℕ} (at : ℕ) (r : Option Report) → RanAs kind f c t r u → ns ≡ seven_by r
-    → exit ≡ sets out at ns → One kind f c t out at u exit
-one kind f c {out = out} at (Some r) h e w = record { entry = ran h.0 r; asked = sym h.1; leaves = h.2; written = w ∙ ap (sets out at) e }
-one kind f c {out = out} at None h e w = record { entry = passed; asked = sym h.0; leaves = h.1; written = w ∙ ap (sets out at) e }
+-- one check with its numbers
+pub one : (kind : ℕ) (f c : List ℕ) {t u : Tables} {out exit : List ℕ} (at : ℕ) (ns : List ℕ) (r : Option Report) → RanAs kind f c t r u
+    → MatchOption r (ns ≡ replicate 7 0) (λ q. ns ≡ seven_of q) → exit ≡ sets out at ns → One kind f c t out at u exit
+one kind f c {out = out} at ns (Some r) h e w = record { entry = ran h.0 r; asked = sym h.1; leaves = h.2; written = w ∙ ap (sets out at) e }
+one kind f c {out = out} at ns None h e w = record { entry = passed; asked = sym h.0; leaves = h.1; written = w ∙ ap (sets out at) e }
 
 -- SO FAR: k checks are done, and the next file stands from `from` on
 pub record Going (bytes ends kinds : List ℕ) (from k : ℕ) (t : Tables) (out : List ℕ) (u : Tables) (now : List ℕ) : Type 0 where

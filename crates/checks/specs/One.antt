@@ -1,8 +1,7 @@
 -- What one check of a list comes to. Assumes nothing.
-use Rattle.std.specs.Prelude.{◌≡◌, Option, Some, None, List, ℕ, replicate}
+use Rattle.std.specs.Prelude.{◌≡◌, Option, Some, None, List, ℕ}
 use Rattle.std.proofs.Math.Option as rules
 use Rattle.std.proofs.lemmas.List.Edits.{sets}
-use Rattle.report.specs.Fields.{seven_of}
 use Rattle.tables.specs.Tables.{Tables}
 use Rattle.tables.specs.Checked.{CheckedBy}
 use Rattle.rules.specs.declared.Report.{Report}
@@ -13,11 +12,6 @@ use Rattle.checks.specs.All.{job_of, Entry, ran, passed, asked_by, seven_in}
 abbrev pub RanAs : ℕ → List ℕ → List ℕ → Tables → Option Report → Tables → Type 0
 RanAs kind f c t (Some r) u = (j : Job) × (job_of kind f c ≡ rules.some j) × CheckedBy (rules_of j) (range_of j) t r u
 RanAs kind f c t None u = (job_of kind f c ≡ rules.none) × (u ≡ t)
-
--- as numbers
-abbrev pub seven_by : Option Report → List ℕ
-seven_by (Some r) = seven_of r
-seven_by None = replicate 7 0
 
 -- the tables before and after
 abbrev pub Leaves : Entry → Tables → Tables → Type 0

@@ -5,7 +5,7 @@ ghost use Rattle.std.specs.Prelude.{◌≡◌, ◌+◌, ◌≤◌, ◌<◌, ◌^
 ghost use Rattle.std.proofs.lemmas.List.Edits.{sets};
 ghost use Rattle.tables.specs.Lent.{tables_of, SameLent};
 ghost use Rattle.checks.specs.All.{clamped, CheckedAll};
-ghost use Rattle.checks.specs.One.{RanAs, seven_by, One};
+ghost use Rattle.checks.specs.One.{RanAs, One};
 
 use rules::Report;
 use tables::LentTables;
@@ -20,7 +20,7 @@ fn end_at(bytes: &[u8], ends: &[usize], i: usize, low: usize) -> usize
     requires { (i < length ends.now) × (low ≤ length bytes.now) }
     ensures { result ≡ clamped low (length bytes.now) (get_or ends.now i 0) }
 {
-    ends[i].min(bytes.len()).max(low)
+    ends[i].clamp(low, bytes.len())
 }
 
 // The number of a check's kind; 0 where it is missing.
@@ -57,17 +57,7 @@ fn check_kind(
     }
 }
 
-// Seven numbers: those of the report, or zeros.
-fn numbers_of(report: Option<Report>) -> [u32; 7]
-    ensures { result ≡ seven_by report }
-{
-    match report {
-        Some(r) => report::numbers(r),
-        None => [0; 7],
-    }
-}
-
-// One check, its numbers written from a place on.
+// One check, its numbers written from a place on, or zeros where it was passed over.
 fn check_one(
     kind: u32,
     formula: &[u8],
@@ -81,7 +71,8 @@ fn check_one(
         (tables_of tables.old) out.old at (tables_of tables.new) out.new }
     ensures lent { SameLent tables.old tables.new }
 {
-    let numbers = numbers_of(check_kind(kind, formula, certificate, tables));
+    let checked = check_kind(kind, formula, certificate, tables);
+    let numbers = checked.map_or([0; 7], report::numbers);
     put_numbers(out, at, &numbers);
 }
 
