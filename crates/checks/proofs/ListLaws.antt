@@ -9,7 +9,7 @@ use native.Mathlib.Omega.{arith}
 use native.Mathlib.Numerals.{add-one}
 use lib.Dec.{eqb}
 use borrow.Author.Tests.{eq-eqb, ne_eqb}
-use lib.ListN.{length, take, drop, get_or, set, length-drop, length-append, length-set, drop_of_length-le}
+use lib.ListN.{length, take, drop, get_or, set, length-append, length-set, drop_of_length-le}
 use lib.Seq.{sets, drop-cons}
 use Rattle.rules.specs.declared.Report.{Report}
 use Rattle.report.specs.Fields.{seven_of}
@@ -118,12 +118,12 @@ pub one : (kind : ℕ) (f c : List ℕ) {t u : Tables} {out exit : List ℕ} (at
 one kind f c {out = out} at ns (Some r) h e w = record { entry = ran h.0 r; asked = sym h.1; leaves = h.2; written = w ∙ ap (sets out at) e }
 one kind f c {out = out} at ns None h e w = record { entry = passed; asked = sym h.0; leaves = h.1; written = w ∙ ap (sets out at) e }
 
--- SO FAR: k checks are done, and the next file stands from `from` on
-pub record Going (bytes ends kinds : List ℕ) (from k : ℕ) (t : Tables) (out : List ℕ) (u : Tables) (now : List ℕ) : Type 0 where
+-- SO FAR: k checks are done, the next file stands from `from` on, and `rest` are the ends that are left
+pub record Going (bytes ends kinds : List ℕ) (from k : ℕ) (rest : List ℕ) (t : Tables) (out : List ℕ) (u : Tables) (now : List ℕ) : Type 0 where
   pub entries : List Entry
   pub start : from ≤ length bytes
   pub runs : Runs (jobs_in entries) t (reports_in entries) u
-  pub left : map asked_by entries ++ asked_from bytes kinds k from (drop (2 * k) ends) ≡ asked bytes ends kinds
+  pub left : map asked_by entries ++ asked_from bytes kinds k from rest ≡ asked bytes ends kinds
   pub written : now ≡ over out (numbers_in entries)
   pub place : 7 * k ≡ length (numbers_in entries)
 
@@ -132,63 +132,60 @@ leaves_run : (e : Entry) {t u : Tables} → Leaves e t u → Runs (jobs_in (e �
 leaves_run (ran j r) h = more h none
 leaves_run passed {t} {u} h = subst (λ z. Runs [] t [] z) (sym h) none
 
+-- two ends
+two : (p : List ℕ) → length p ≡ 2 → p ≡ get_or p 0 0 ∷ get_or p 1 0 ∷ []
+two (a ∷ b ∷ []) e = refl
+two [] e = absurd (omega (arith, e))
+two (a ∷ []) e = absurd (omega (arith, e))
+two (a ∷ b ∷ c ∷ p) e = absurd (omega (arith, e))
+
 module _ (bytes ends kinds : List ℕ) where
-  pub going_start : (t : Tables) (out : List ℕ) → Going bytes ends kinds 0 0 t out t out
+  pub going_start : (t : Tables) (out : List ℕ) → Going bytes ends kinds 0 0 ends t out t out
   unfolding numbers_in over
   going_start t out = record { entries = []; start = omega arith; runs = none; left = refl; written = refl; place = refl }
-
-  two : (i : ℕ) → i + 1 < length ends → drop i ends ≡ get_or ends i 0 ∷ get_or ends (i + 1) 0 ∷ drop (i + 2) ends
-  two i h =
-      let k : i + 2 ≡ suc (i + 1) = omega arith in
-      let g : i < length ends = omega arith in
-      drop-cons ends i 0 g ∙ ap (λ n. get_or ends i 0 ∷ drop n ends) (sym (add-one i)) ∙ ap (λ r. get_or ends i 0 ∷ r) (drop-cons ends (i + 1) 0 h)
-      ∙ ap (λ n. get_or ends i 0 ∷ get_or ends (i + 1) 0 ∷ drop n ends) (sym k)
 
   asked_next : (k from a b : ℕ) (es : List ℕ) (middle to kind : ℕ) → middle ≡ clamped from (length bytes) a → to ≡ clamped middle (length bytes) b
       → kind ≡ get_or kinds k 0 → asked_from bytes kinds k from (a ∷ b ∷ es) ≡ job_in bytes from middle to kind ∷ asked_from bytes kinds (k + 1) to es
   unfolding asked_from
   asked_next k from a b es middle to kind m e n = rw (e, m, n)
 
-  pub going_more : (from k middle to : ℕ) {kind : ℕ} {t u w : Tables} {out p q : List ℕ} → 2 * k + 1 < length ends
-      → middle ≡ clamped from (length bytes) (get_or ends (2 * k) 0) → to ≡ clamped middle (length bytes) (get_or ends (2 * k + 1) 0) → kind ≡ get_or kinds k 0
-      → Going bytes ends kinds from k t out u p → One kind (take (middle - from) (drop from bytes)) (take (to - middle) (drop middle bytes)) u p (7 * k) w q
-      → Going bytes ends kinds to (k + 1) t out w q
+  pub going_more : (from k middle to : ℕ) {kind : ℕ} (pair : List ℕ) {rest next : List ℕ} {t u w : Tables} {out p q : List ℕ} → rest ≡ pair ++ next
+      → length pair ≡ 2 → middle ≡ clamped from (length bytes) (get_or pair 0 0) → to ≡ clamped middle (length bytes) (get_or pair 1 0)
+      → kind ≡ get_or kinds k 0 → Going bytes ends kinds from k rest t out u p
+      → One kind (take (middle - from) (drop from bytes)) (take (to - middle) (drop middle bytes)) u p (7 * k) w q
+      → Going bytes ends kinds to (k + 1) next t out w q
   unfolding numbers_in part
-  going_more from k middle to {kind} {out = out} {p = p} {q = q} h m e n g c =
+  going_more from k middle to {kind} pair {rest = rest} {next = next} {out = out} {p = p} {q = q} h l m e n g c =
       let ns = numbers_in g.entries in
       let s = seven_in c.entry in
       let both : numbers_in (g.entries ++ (c.entry ∷ [])) ≡ ns ++ s = numbers_then g.entries (c.entry ∷ []) ∙ ap (λ l. ns ++ l) (append-nil s) in
-      let i : 2 * (k + 1) ≡ 2 * k + 2 = omega arith in
-      let rest = asked_from bytes kinds (k + 1) to (drop (2 * (k + 1)) ends) in
-      let next : asked_from bytes kinds k from (drop (2 * k) ends) ≡ asked_by c.entry ∷ rest
-      = ap (asked_from bytes kinds k from) (two (2 * k) h)
-      ∙ asked_next k from (get_or ends (2 * k) 0) (get_or ends (2 * k + 1) 0) (drop (2 * k + 2) ends) middle to kind m e n
-      ∙ ap (λ j. job_in bytes from middle to kind ∷ asked_from bytes kinds (k + 1) to (drop j ends)) (sym i) ∙ ap (λ j. j ∷ rest) (sym c.asked) in
+      let more = asked_from bytes kinds (k + 1) to next in
+      let step : asked_from bytes kinds k from rest ≡ asked_by c.entry ∷ more
+      = ap (asked_from bytes kinds k from) (h ∙ ap (λ l. l ++ next) (two pair l))
+      ∙ asked_next k from (get_or pair 0 0) (get_or pair 1 0) next middle to kind m e n ∙ ap (λ j. j ∷ more) (sym c.asked) in
       record {
         entries = g.entries ++ (c.entry ∷ []);
         start = omega (arith, g.start);
         runs = entries_run g.entries (c.entry ∷ []) g.runs (leaves_run c.entry c.leaves);
         left =
-            ap (λ l. l ++ rest) (asked_then g.entries (c.entry ∷ [])) ∙ append_assoc (map asked_by g.entries) (asked_by c.entry ∷ []) rest
-            ∙ ap (λ l. map asked_by g.entries ++ l) (sym next) ∙ g.left;
+            ap (λ l. l ++ more) (asked_then g.entries (c.entry ∷ [])) ∙ append_assoc (map asked_by g.entries) (asked_by c.entry ∷ []) more
+            ∙ ap (λ l. map asked_by g.entries ++ l) (sym step) ∙ g.left;
         written = c.written ∙ ap (λ l. sets l (7 * k) s) g.written ∙ ap (λ k. sets (over out ns) k s) g.place ∙ over_then out ns s ∙ ap (over out) (sym both);
         place = omega (arith, g.place, ap length both, length-append ns s, seven_numbers c.entry);
       }
 
-  pub going_end : {from k : ℕ} {t u : Tables} {out p : List ℕ} → length ends ≤ 2 * k + 1 → Going bytes ends kinds from k t out u p
+  pub going_end : {from k : ℕ} {rest : List ℕ} {t u : Tables} {out p : List ℕ} → length rest < 2 → Going bytes ends kinds from k rest t out u p
       → CheckedAll bytes ends kinds t out u p
   unfolding asked_from
-  going_end {from} {k} h g = record {
+  going_end {from} {k} {rest} h g = record {
     entries = g.entries;
-    checks =
-        sym (append-nil (map asked_by g.entries))
-        ∙ ap (λ l. map asked_by g.entries ++ l) (sym (short (drop (2 * k) ends) (rw (length-drop (2 * k) ends) (omega arith)))) ∙ g.left;
+    checks = sym (append-nil (map asked_by g.entries)) ∙ ap (λ l. map asked_by g.entries ++ l) (sym (short rest h)) ∙ g.left;
     runs = g.runs;
     written = g.written;
     demanded = demand_3 g.runs;
   }
     where
-      short : (l : List ℕ) → length l ≤ 1 → asked_from bytes kinds k from l ≡ []
+      short : (l : List ℕ) → length l < 2 → asked_from bytes kinds k from l ≡ []
       short [] q = refl
       short (a ∷ []) q = refl
       short (a ∷ b ∷ l) q = absurd (omega arith)

@@ -15,14 +15,6 @@ pub const FERAT: u32 = 1;
 
 pub const FERP: u32 = 2;
 
-// An end of the list, which counts as `low` if it lies below, as the bytes' length if it lies above.
-fn end_at(bytes: &[u8], ends: &[usize], i: usize, low: usize) -> usize
-    requires { (i < length ends.now) × (low ≤ length bytes.now) }
-    ensures { result ≡ clamped low (length bytes.now) (get_or ends.now i 0) }
-{
-    ends[i].clamp(low, bytes.len())
-}
-
 // The number of a check's kind; 0 where it is missing.
 fn kind_at(kinds: &[u32], k: usize) -> u32
     ensures { result ≡ get_or kinds.now k 0 }
@@ -76,7 +68,8 @@ fn check_one(
     put_numbers(out, at, &numbers);
 }
 
-// THE LIST: files packed one after the other, two ends and a kind for each check; seven numbers for each.
+// THE LIST: files packed one after the other, two ends and a kind for each check; seven numbers for each. An end counts as the one before it
+// if it lies below, as the bytes' length if it lies above.
 pub fn check_all(
     bytes: &[u8],
     ends: &[usize],
@@ -89,9 +82,9 @@ pub fn check_all(
     ensures lent { SameLent tables.old tables.new }
 {
     let mut from = 0;
-    for k in 0..ends.len() / 2 {
-        let middle = end_at(bytes, ends, 2 * k, from);
-        let to = end_at(bytes, ends, 2 * k + 1, middle);
+    for (k, pair) in ends.chunks_exact(2).enumerate() {
+        let middle = pair[0].clamp(from, bytes.len());
+        let to = pair[1].clamp(middle, bytes.len());
         check_one(
             kind_at(kinds, k),
             &bytes[from..middle],
