@@ -10,7 +10,7 @@ use lib.IntN.{ℤ}
 use lib.ListN.{replicate, length-replicate}
 use lib.Dec.{leb}
 use borrow.Author.Tests.{le-leb, leb-true}
-use Rattle.lines.specs.Lists.{all}
+use Rattle.std.specs.List.{list_all as all}
 use Rattle.prefix.specs.Prefix.{entry, is_existential, dependency, narrower, Told}
 use Rattle.prefix.proofs.Laws.{told_universal, told_existential, told_depends, depends_universal, narrower_none, narrower_depends}
 use Rattle.rules.specs.Basics.{distinct}

@@ -1,6 +1,6 @@
 -- Rule 8, w giving each variable's word of the prefix table. Assumes nothing.
 use Rattle.std.specs.Prelude.{◌≡◌, Bool, true, ◌&&◌, List, [], ◌∷◌, ℕ, leb, ltb, Option, Some, None, Result, Ok, Err}
-use Rattle.lines.specs.Lists.{all}
+use Rattle.std.specs.List.{list_all as all}
 use Rattle.prefix.specs.Prefix.{is_universal, is_existential, dependency}
 use Rattle.rules.specs.Basics.{distinct}
 use Rattle.rules.specs.declared.Rule.{Rule}

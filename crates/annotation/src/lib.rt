@@ -2,7 +2,7 @@
 #![tactic(auto)]
 
 ghost use Rattle.std.specs.Prelude.{◌≡◌, true};
-ghost use Rattle.lines.specs.Lists.{all};
+ghost use Rattle.std.specs.List.{list_all as all};
 ghost use Rattle.rules.specs.Rule.{broken};
 ghost use Rattle.prefix.specs.Prefix.{entry};
 ghost use Rattle.lists.specs.Lists.{is_list};

@@ -9,7 +9,7 @@ use lib.IntN.{ℤ}
 use lib.ListN.{length, drop, take, length-drop, length-take}
 use Rattle.std.specs.List.{filter}
 use Rattle.std.proofs.lemmas.List.Sums.{length-filter, count_by-le-length}
-use Rattle.lines.specs.Lists.{keep}
+use Rattle.std.specs.List.{filter as keep}
 use Rattle.cells.specs.Cells.{list_at, up_to, codes_of}
 use Rattle.cells.proofs.Laws.{list_past, codes_length}
 use Rattle.rules.specs.Codes.{flip}
@@ -28,8 +28,8 @@ pub negations_more : (w : ℕ → ℕ) (y : ℕ) (ys : List ℕ) → negations w
 unfolding negations
 negations_more w y ys = go (is_universal w (y / 2)) (keep (λ z. is_universal w (z / 2)) ys)
   where
-    go : (b : Bool) (ks : List ℕ) → map flip (elim b as (λ _. List ℕ) [ true ↦ y ∷ ks | false ↦ ks ])
-        ≡ map flip (elim b as (λ _. List ℕ) [ true ↦ y ∷ [] | false ↦ [] ]) ++ map flip ks
+    go : (b : Bool) (ks : List ℕ) → map flip (cond b (y ∷ ks) ks)
+        ≡ map flip (cond b (y ∷ []) []) ++ map flip ks
     go true ks = refl
     go false ks = refl
 

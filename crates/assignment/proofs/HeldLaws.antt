@@ -14,12 +14,11 @@ use borrow.Author.Tests.{eq-eqb, ne_eqb, eqb-true, eqb-false, lt-ltb, le-ltb, lt
 use Rattle.std.specs.List.{list_all, list_any, filter}
 use Rattle.std.proofs.lemmas.List.Folds.{list_all_more, list_any_more}
 use Rattle.std.proofs.lemmas.List.Filters.{length-filter_more}
-use Rattle.lines.specs.Lists.{all, keep}
+use Rattle.std.specs.List.{list_all as all, filter as keep}
 use Rattle.rules.specs.Basics.{is_in, distinct}
 use Rattle.rules.proofs.Kit.{clear, and_l, and_r, either, In}
 use Rattle.rules.proofs.Distinct.{in_is_in, is_in_in, distinct_cons}
 use Rattle.copies.specs.Marks.{Unmarked}
-use Rattle.copies.proofs.Members.{any_listed}
 use Rattle.cells.proofs.Laws.{get_or_zeros}
 use Rattle.assignment.specs.Held.{listed, is_new, adding, joined, zeros, Held, Holds, Noted}
 
@@ -50,7 +49,7 @@ module _ (h : List ℕ) where
   count_filled p (suc n) l = rw (← add-one) (length-filter_more p h n 0 (omega arith) ∙ go (p (get_or h n 0)) (count_filled p n (omega arith)))
     where
       go : (b : Bool) → length (filter p (take n h)) ≡ length (keep p (listed h n))
-          → length (filter p (take n h)) + cond b 1 0 ≡ length {A = ℕ} (elim b as (λ _. List ℕ) [ true ↦ get_or h n 0 ∷ keep p (listed h n) | false ↦ keep p (listed h n) ])
+          → length (filter p (take n h)) + cond b 1 0 ≡ length {A = ℕ} (cond b (get_or h n 0 ∷ keep p (listed h n)) (keep p (listed h n)))
       go true e = omega arith
       go false e = omega arith
 
@@ -58,9 +57,9 @@ module _ (h : List ℕ) where
   unfolding listed
   in_filled zero y l = refl
   in_filled (suc n) y l =
-      rw (← add-one) (sym (any_listed (eqb y) (take (n + 1) h)) ∙ list_any_more (eqb y) h n 0 (omega arith)
+      rw (← add-one) (list_any_more (eqb y) h n 0 (omega arith)
       ∙ or_comm (list_any (eqb y) (take n h)) (eqb y (get_or h n 0))
-      ∙ ap (λ b. eqb y (get_or h n 0) || b) (any_listed (eqb y) (take n h) ∙ in_filled n y (omega arith)))
+      ∙ ap (λ b. eqb y (get_or h n 0) || b) (in_filled n y (omega arith)))
 
 pub listed_length : (h : List ℕ) (n : ℕ) → length (listed h n) ≡ n
 unfolding listed

@@ -1,6 +1,6 @@
 -- The least t over lists of codes, and the annotations of the line's copies against it. Assumes nothing.
 use Rattle.std.specs.Prelude.{Bool, true, false, cond, not, List, [], ◌∷◌, ◌++◌, map, ℕ, ◌/◌, eqb, length}
-use Rattle.lines.specs.Lists.{all, keep}
+use Rattle.std.specs.List.{list_all as all, filter as keep}
 use Rattle.rules.specs.Basics.{is_in}
 use Rattle.rules.specs.Codes.{flip}
 use Rattle.prefix.specs.Prefix.{is_universal, dependency}

@@ -4,7 +4,7 @@
 pub mod least;
 
 ghost use Rattle.std.specs.Prelude.{◌≡◌, cond, false, length};
-ghost use Rattle.lines.specs.Lists.{all};
+ghost use Rattle.std.specs.List.{list_all as all};
 ghost use Rattle.copies.specs.Copies.{words, stands_in, annotation_in, list_in, line_in};
 ghost use Rattle.assignment.specs.Held.{Noted};
 ghost use Rattle.assignment.specs.Least.{items_of, HeldIn, IsEmpty, SameArrays};

@@ -6,7 +6,7 @@ use mathlib.Core.List.{List, [], ◌∷◌, map}
 use Prim.Native.Nat.{ℕ}
 use Rattle.std.specs.List.{list_all, list_any}
 use lib.Dec.{eqb}
-use Rattle.lines.specs.Lists.{all, any}
+use Rattle.std.specs.List.{list_all as all, list_any as any}
 use Rattle.rules.specs.Basics.{is_in}
 use Rattle.rules.specs.Literals.{same, holds}
 use Rattle.rules.specs.Codes.{lit_of}
@@ -35,12 +35,3 @@ same_lit m x = same_code (lit_of m) (lit_of x) ∙ ap₂ eqb (code_lit m) (code_
 pub holds_lit : (d : List ℕ) (x : ℕ) → holds (map lit_of d) (lit_of x) ≡ is_in d x
 holds_lit [] x = refl
 holds_lit (m ∷ d) x = ap₂ (λ a b. a || b) (same_lit x m) (holds_lit d x)
-
--- a test of all, or of some, as std has it
-pub all_listed : {A : Type 0} (p : A → Bool) (xs : List A) → list_all p xs ≡ all p xs
-all_listed p [] = refl
-all_listed p (x ∷ xs) = ap (λ b. p x && b) (all_listed p xs)
-
-pub any_listed : {A : Type 0} (p : A → Bool) (xs : List A) → list_any p xs ≡ any p xs
-any_listed p [] = refl
-any_listed p (x ∷ xs) = ap (λ b. p x || b) (any_listed p xs)

@@ -13,7 +13,8 @@ use lib.Seq.{set_out, get_or-append_seam}
 use borrow.Author.Tests.{eqb-true, eqb-false, eq-eqb, leb-true, leb-false, ltb-true, ltb-false}
 use Rattle.cells.specs.Cells.{cell_at, list_at, Kept}
 use Rattle.cells.proofs.Laws.{at_past, at_same, at_other, kept_self, kept_set}
-use Rattle.lines.specs.Lists.{any, is_empty}
+use Rattle.std.specs.List.{list_any as any}
+use Rattle.lines.specs.Lists.{is_empty}
 use Rattle.rules.specs.Basics.{without_first}
 use Rattle.rules.specs.Literals.{Lits}
 use Rattle.rules.specs.Codes.{code_of, lit_of}

@@ -1,6 +1,7 @@
 -- How clauses stand in the proof and marks tables, and the list of the standing ones. Assumes nothing.
 use Rattle.std.specs.Prelude.{◌≡◌, Bool, false, not, cond, ◌&&◌, List, [], ◌∷◌, ◌++◌, map, ℕ, zero, suc, ◌+◌, ◌-◌, ◌/◌, ◌%◌, ◌<◌, ◌≤◌, eqb, leb, ℤ, pos, length, set, take}
-use Rattle.lines.specs.Lists.{any, is_empty}
+use Rattle.std.specs.List.{list_any as any}
+use Rattle.lines.specs.Lists.{is_empty}
 use Rattle.cells.specs.Cells.{cell_at, code_at, list_at, Kept}
 use Rattle.rules.specs.Literals.{Lits}
 use Rattle.rules.specs.Codes.{code_of, lit_of}

@@ -11,7 +11,7 @@ use lib.IntN.{ℤ}
 use lib.ListN.{length, get_or, take}
 use borrow.Author.Tests.{eq-eqb, leb-true, leb-false}
 use Rattle.cells.proofs.Laws.{kept_self}
-use Rattle.lines.specs.Lists.{all, any}
+use Rattle.std.specs.List.{list_all as all, list_any as any}
 use Rattle.rules.specs.Basics.{is_in, without_first}
 use Rattle.rules.specs.Literals.{Lit, Lits, within, same_set, holds}
 use Rattle.rules.specs.Codes.{code_of, lit_of}

@@ -1,7 +1,7 @@
 -- What the contracts of deletions say. Assumes nothing.
 use Rattle.std.specs.Prelude.{◌≡◌, Bool, true, false, ◌&&◌, ◌||◌, List, Option, MatchOption, map, ℕ, ◌<◌, ◌≤◌, eqb, ℤ, get_or, take}
 use Rattle.cells.specs.Cells.{Kept}
-use Rattle.lines.specs.Lists.{any}
+use Rattle.std.specs.List.{list_any as any}
 use Rattle.rules.specs.Basics.{is_in, without_first}
 use Rattle.rules.specs.Literals.{same_set}
 use Rattle.rules.specs.Codes.{lit_of}

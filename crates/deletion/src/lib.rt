@@ -3,7 +3,7 @@
 #![tactic(auto)]
 
 ghost use Rattle.std.specs.Prelude.{◌≡◌, ◌+◌, ◌≤◌, ◌<◌, false};
-ghost use Rattle.lines.specs.Lists.{all};
+ghost use Rattle.std.specs.List.{list_all as all};
 ghost use Rattle.rules.specs.Basics.{is_in};
 ghost use Rattle.cells.specs.Codes.{codes_left};
 ghost use Rattle.trail.specs.Trail.{off, ReadyIn};

@@ -8,7 +8,7 @@ use lib.Dec.{leb}
 use lib.ListN.{length, get_or}
 use lib.IntN.{ℤ}
 use borrow.Author.Tests.{leb-true, le-leb}
-use Rattle.lines.specs.Lists.{all, any}
+use Rattle.std.specs.List.{list_all as all, list_any as any}
 use Rattle.cells.specs.Cells.{list_at}
 use Rattle.prefix.specs.Prefix.{Told}
 use Rattle.rules.specs.Basics.{is_in}

@@ -1,6 +1,6 @@
 -- Lists without repeats, one within the other, are as long as each other exactly if the other is within the one. Assumes nothing.
 use mathlib.Core.Path.{◌≡◌, refl, ap, sym, ◌∙◌}
-use mathlib.Core.Bool.{Bool, true, false, not}
+use mathlib.Core.Bool.{Bool, true, false, not, cond}
 use mathlib.Core.List.Memᴰ
 use mathlib.Core.List.{List, [], ◌∷◌}
 use Prim.Native.Nat.{ℕ, suc, ◌<◌, ◌≤◌}
@@ -8,7 +8,7 @@ use native.Mathlib.Omega.{arith}
 use lib.Dec.{eqb}
 use lib.ListN.{length}
 use borrow.Author.Tests.{eq-eqb, ne_eqb, eqb-true}
-use Rattle.lines.specs.Lists.{all, keep}
+use Rattle.std.specs.List.{list_all as all, filter as keep}
 use Rattle.rules.specs.Basics.{is_in, distinct}
 use Rattle.rules.proofs.Kit.{clear, by_no, not_of_f, eqb_self, either, In, in_all_lem, all_in, keep_in, same_test}
 use Rattle.rules.proofs.Distinct.{in_is_in, is_in_in, distinct_cons, distinct_new, distinct_tail}
@@ -21,7 +21,7 @@ keep_most : (p : ℕ → Bool) (K : List ℕ) → length (keep p K) ≤ length K
 keep_most p [] = omega arith
 keep_most p (k ∷ K) = go (p k) (keep_most p K)
   where
-    go : (b : Bool) → length (keep p K) ≤ length K → length {A = ℕ} (elim b as (λ _. List ℕ) [ true ↦ k ∷ keep p K | false ↦ keep p K ]) ≤ suc (length K)
+    go : (b : Bool) → length (keep p K) ≤ length K → length {A = ℕ} (cond b (k ∷ keep p K) (keep p K)) ≤ suc (length K)
     go true h = omega arith
     go false h = omega arith
 
@@ -30,11 +30,11 @@ keep_fewer p [] a i e = absurd (Memᴰ.not-nil i)
 keep_fewer p (k ∷ K) a i e =
     either (λ q. here (p k) (sym (ap p q) ∙ e) (keep_most p K)) (λ j. there (p k) (keep_fewer p K a j e)) (Memᴰ.cases_cons i)
   where
-    here : (b : Bool) → b ≡ false → length (keep p K) ≤ length K → length {A = ℕ} (elim b as (λ _. List ℕ) [ true ↦ k ∷ keep p K | false ↦ keep p K ]) < suc (length K)
+    here : (b : Bool) → b ≡ false → length (keep p K) ≤ length K → length {A = ℕ} (cond b (k ∷ keep p K) (keep p K)) < suc (length K)
     here true f h = absurd (clear refl f)
     here false f h = omega arith
 
-    there : (b : Bool) → length (keep p K) < length K → length {A = ℕ} (elim b as (λ _. List ℕ) [ true ↦ k ∷ keep p K | false ↦ keep p K ]) < suc (length K)
+    there : (b : Bool) → length (keep p K) < length K → length {A = ℕ} (cond b (k ∷ keep p K) (keep p K)) < suc (length K)
     there true h = omega arith
     there false h = omega arith
 

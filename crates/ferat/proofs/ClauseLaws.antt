@@ -15,7 +15,7 @@ use Rattle.rules.specs.declared.Rule.{Rule}
 use Rattle.rules.specs.declared.Rule.TheVariants.{Malformed}
 use Rattle.rules.proofs.RuleLaws.{number_not_zero}
 use Rattle.lines.specs.Lines.{Token}
-use Rattle.lines.specs.Lists.{all}
+use Rattle.std.specs.List.{list_all as all}
 use Rattle.lines.specs.Scan.{tokens_from}
 use Rattle.lists.specs.declared.Measure.{Measure}
 use Rattle.lists.specs.Lists.{lits_at, clause_at}

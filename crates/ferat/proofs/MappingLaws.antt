@@ -10,7 +10,7 @@ use Rattle.std.specs.Prelude.{Result, Ok, Err, Some, None}
 use Rattle.rules.specs.declared.Rule.{Rule}
 use Rattle.rules.specs.declared.Rule.TheVariants.{Malformed}
 use Rattle.std.specs.Prelude as prelude
-use Rattle.lines.specs.Lists.{all}
+use Rattle.std.specs.List.{list_all as all}
 use Rattle.lines.specs.Scan.{tokens_from}
 use Rattle.lists.specs.declared.MappingLists.{MappingLists}
 use Rattle.lists.specs.Lists.{lits_at, mapping_at}

@@ -7,7 +7,8 @@ use lib.IntN.{ℤ}
 use Rattle.std.specs.Prelude.{Result}
 use Rattle.rules.specs.Rule.{broken}
 use Rattle.rules.specs.declared.Rule.{Rule}
-use Rattle.lines.specs.Lists.{any, is_empty}
+use Rattle.std.specs.List.{list_any as any}
+use Rattle.lines.specs.Lists.{is_empty}
 use Rattle.rules.specs.Formula.{Formula}
 use Rattle.rules.specs.Step.{◌unless◌}
 use Rattle.ferp_rules.specs.Lines.{Derived, certificate_end}

@@ -15,7 +15,7 @@ use lib.Dec.{leb}
 use lib.ListN.{length}
 use lib.IntN.{ℤ}
 use borrow.Author.Tests.{leb-true, leb-false, le-leb, lt-leb, eqb-false}
-use Rattle.lines.specs.Lists.{all}
+use Rattle.std.specs.List.{list_all as all}
 use Rattle.lines.specs.Scan.{cap, tokens_from}
 use Rattle.lists.specs.Stores.{ending_at}
 use Rattle.lists.specs.Lists.{lits_at}

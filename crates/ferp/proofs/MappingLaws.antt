@@ -12,7 +12,8 @@ use native.Mathlib.Omega.{arith}
 use lib.Dec.{eqb}
 use lib.ListN.{length}
 use borrow.Author.Tests.{ne_eqb}
-use Rattle.lines.specs.Lists.{all, is_empty}
+use Rattle.std.specs.List.{list_all as all}
+use Rattle.lines.specs.Lists.{is_empty}
 use Rattle.lines.specs.Scan.{tokens_from}
 use Rattle.lists.specs.declared.MappingLists.{MappingLists}
 use Rattle.lists.specs.Lists.{lits_at, mapping_at}

@@ -7,7 +7,8 @@ use mathlib.Core.Option.{Option}
 use Prim.Native.Nat.{ℕ, suc, ◌≤◌}
 use native.Mathlib.Omega.{arith}
 use lib.ListN.{length}
-use Rattle.lines.specs.Lists.{all, any, is_empty}
+use Rattle.std.specs.List.{list_all as all, list_any as any}
+use Rattle.lines.specs.Lists.{is_empty}
 use Rattle.lines.specs.Lines.{lines_of}
 use Rattle.rules.specs.Basics.{is_in, distinct}
 use Rattle.rules.specs.Literals.{vars}

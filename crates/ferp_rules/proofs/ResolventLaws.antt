@@ -5,7 +5,7 @@ use mathlib.Core.Bool.{true, false, not, ◌&&◌, ◌||◌}
 use mathlib.Core.List.Memᴰ
 use mathlib.Core.List.{◌++◌}
 use Prim.Native.Nat.{ℕ}
-use Rattle.lines.specs.Lists.{any}
+use Rattle.std.specs.List.{list_any as any}
 use Rattle.rules.specs.Literals.{Lit, Lits, pos, neg, var, vars, same, holds, within, same_set}
 use Rattle.rules.specs.Propagation.{less}
 use Rattle.rules.proofs.Kit.{clear, decide, and_l, and_r, or_cases, not_of_f, by_yes, same_eq, either, In, all_in, in_any, Some, any_in, keep_in, holds_in}

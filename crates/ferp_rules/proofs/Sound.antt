@@ -9,7 +9,8 @@ use native.Mathlib.Omega.{arith}
 use borrow.Author.Tests.{leb-true, eqb-false}
 use lib.Dec.{eqb, leb}
 use lib.ListN.{length}
-use Rattle.lines.specs.Lists.{all, any, is_empty}
+use Rattle.std.specs.List.{list_all as all, list_any as any}
+use Rattle.lines.specs.Lists.{is_empty}
 use Rattle.lines.specs.Lines.{lines_of}
 use Rattle.rules.specs.Basics.{is_in}
 use Rattle.rules.specs.Literals.{Lits, vars}

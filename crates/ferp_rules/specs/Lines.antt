@@ -1,7 +1,8 @@
 -- The lines of a FERP certificate. Assumes nothing.
 use Rattle.std.specs.Prelude.{Bool, true, false, ◌&&◌, not, List, [], ◌∷◌, ◌++◌, ℕ, ◌+◌, eqb, leb, length}
 use Rattle.std.proofs.Math.Option.{Option, none, some}
-use Rattle.lines.specs.Lists.{all, any, is_empty}
+use Rattle.std.specs.List.{list_all as all, list_any as any}
+use Rattle.lines.specs.Lists.{is_empty}
 use Rattle.rules.specs.Basics.{is_in, greatest}
 use Rattle.rules.specs.Literals.{Lits, vars}
 use Rattle.rules.specs.Formula.{Formula}

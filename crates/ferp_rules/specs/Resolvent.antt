@@ -1,7 +1,7 @@
 -- The resolvent of two clauses. Assumes nothing.
 use Rattle.std.specs.Prelude.{Bool, false, ◌&&◌, ◌||◌, ◌++◌, ℕ}
 use Rattle.std.proofs.Math.Option.{Option, none, some}
-use Rattle.lines.specs.Lists.{any}
+use Rattle.std.specs.List.{list_any as any}
 use Rattle.rules.specs.Literals.{Lits, pos, neg, vars, holds, same_set}
 use Rattle.rules.specs.Propagation.{less}
 

@@ -12,7 +12,8 @@ use borrow.Author.Tests.{eq-eqb, ne_eqb, le-leb, lt-leb}
 use Rattle.std.specs.Prelude.{Some, None, Result, Ok, Err}
 use Rattle.rules.specs.declared.Rule.{Rule}
 use Rattle.rules.specs.declared.Rule.TheVariants.{Malformed, OutOfRange, BoundTwice}
-use Rattle.lines.specs.Lists.{all, is_empty}
+use Rattle.std.specs.List.{list_all as all}
+use Rattle.lines.specs.Lists.{is_empty}
 use Rattle.lines.specs.Scan.{tokens_from}
 use Rattle.cells.specs.Cells.{Kept}
 use Rattle.cells.proofs.Laws.{kept_self}

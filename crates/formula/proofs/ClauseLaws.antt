@@ -12,7 +12,7 @@ use borrow.Author.Tests.{le-leb, lt-leb}
 use Rattle.std.specs.Prelude.{Some, None, Result, Ok, Err}
 use Rattle.rules.specs.declared.Rule.{Rule}
 use Rattle.rules.specs.declared.Rule.TheVariants.{Malformed, OutOfRange, TableFull, Unbound, WrongClauseCount}
-use Rattle.lines.specs.Lists.{all}
+use Rattle.std.specs.List.{list_all as all}
 use Rattle.cells.specs.Cells.{cells_of, list_at, Kept}
 use Rattle.cells.proofs.Laws.{kept_self}
 use Rattle.rules.specs.Basics.{is_in, greatest}

@@ -14,7 +14,8 @@ use Rattle.rules.specs.declared.Rule.TheVariants.{Malformed, WrongClauseCount, O
 use Rattle.rules.specs.Rule.{number, of_file}
 use Rattle.rules.specs.declared.Rule.{Rule}
 use Rattle.rules.specs.declared.Refusal.{Refusal}
-use Rattle.lines.specs.Lists.{all, is_empty}
+use Rattle.std.specs.List.{list_all as all}
+use Rattle.lines.specs.Lists.{is_empty}
 use Rattle.lines.specs.Lines.{Token, lines_of, read_line}
 use Rattle.lines.specs.Each.{bytes_in}
 use Rattle.lines.proofs.LinesLeft.{bytes_of_lines}

@@ -10,7 +10,7 @@ use lib.Dec.{eqb, leb}
 use borrow.Author.Tests.{eq-eqb, ne_eqb, eqb-true, eqb-false, leb-true}
 use Rattle.std.specs.Prelude.{Ok, Err}
 use Rattle.rules.specs.declared.Rule.TheVariants.{BoundTwice}
-use Rattle.lines.specs.Lists.{all}
+use Rattle.std.specs.List.{list_all as all}
 use Rattle.cells.specs.Cells.{cell_at, Kept}
 use Rattle.cells.proofs.Laws.{at_same, at_other, kept_self, kept_set, kept_chain}
 use Rattle.rules.specs.Basics.{is_in, distinct}

@@ -4,7 +4,7 @@ use mathlib.Core.Bool.{Bool, true, ◌&&◌}
 use mathlib.Core.List.{List, [], ◌∷◌}
 use lib.ListN.{length}
 use lib.IntN.{ℤ}
-use Rattle.lines.specs.Lists.{all}
+use Rattle.std.specs.List.{list_all as all}
 use Rattle.rules.specs.Basics.{is_in}
 use Rattle.rules.specs.Literals.{Lits, vars}
 use Rattle.rules.specs.Formula.{Formula, bound}

@@ -12,7 +12,7 @@ use borrow.Author.Tests.{le-leb}
 use Rattle.std.specs.Prelude.{Some, None, Ok, Err}
 use Rattle.rules.specs.declared.Rule.{Rule}
 use Rattle.rules.specs.Rule.{number}
-use Rattle.lines.specs.Lists.{all}
+use Rattle.std.specs.List.{list_all as all}
 use Rattle.cells.specs.Cells.{Kept}
 use Rattle.cells.proofs.Laws.{kept_self}
 use Rattle.rules.specs.Literals.{Lits}

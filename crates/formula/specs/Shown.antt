@@ -1,6 +1,6 @@
 -- What two tables show of a whole formula. Assumes nothing.
 use Rattle.std.specs.Prelude.{◌≡◌, true, List, ℕ, ◌≤◌, length, take, ℤ}
-use Rattle.lines.specs.Lists.{all}
+use Rattle.std.specs.List.{list_all as all}
 use Rattle.cells.specs.Cells.{cells_of}
 use Rattle.prefix.specs.Prefix.{Shows}
 use Rattle.lists.specs.Stores.{flat, in_range}

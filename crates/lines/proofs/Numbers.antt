@@ -8,7 +8,8 @@ use lib.ListN.{length, drop, get_or}
 use lib.Dec.{eqb}
 use borrow.Author.Tests.{eq-eqb, ne_eqb, eqb-true}
 use Rattle.std.specs.Prelude.{Option, None, Some}
-use Rattle.lines.specs.Lists.{all, is_empty}
+use Rattle.std.specs.List.{list_all as all}
+use Rattle.lines.specs.Lists.{is_empty}
 use Rattle.lines.specs.Bytes.{class_of, rank, is_digit, is_minus}
 use Rattle.lines.specs.Lines.{is_number, value, Token, signed}
 use Rattle.lines.specs.Scan.{cap, digits_in, shown, number_in}

@@ -9,7 +9,7 @@ use lib.ListN.{length, take, drop, get_or}
 use lib.Seq.{drop-drop}
 use borrow.Author.Tests.{eq-eqb, ne_eqb}
 use denote.Ref.{Bor}
-use Rattle.lines.specs.Lists.{keep}
+use Rattle.std.specs.List.{filter as keep}
 use Rattle.lines.specs.Bytes.{is_line_end}
 use Rattle.lines.specs.Lines.{longer, lines_of, line_at}
 use Rattle.lines.specs.declared.Run.TheVariants.{Line}
@@ -24,7 +24,7 @@ ends bs = length (keep is_line_end bs)
 
 -- the definitions at a byte, by whether it is byte 10
 abbrev kept : Bool → ℕ → List ℕ → List ℕ
-kept t b bs = elim t [ true ↦ b ∷ bs | false ↦ bs ]
+kept t b bs = cond t (b ∷ bs) bs
 
 abbrev parted : Bool → ℕ → List (List ℕ) → List (List ℕ)
 parted t b parts = elim t [ true ↦ [] ∷ parts | false ↦ longer b parts ]

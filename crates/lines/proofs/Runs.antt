@@ -11,7 +11,8 @@ use Prim.Native.Nat.{ℕ, zero, suc, ◌+◌, ◌-◌, ◌<◌, ◌≤◌, max}
 use native.Mathlib.Omega.{arith}
 use lib.ListN.{length, take, drop, get_or, length-drop, length-append}
 use lib.Seq.{drop-drop, drop-append_seam, get_or-drop}
-use Rattle.lines.specs.Lists.{keep, is_empty}
+use Rattle.std.specs.List.{filter as keep}
+use Rattle.lines.specs.Lists.{is_empty}
 use Rattle.lines.specs.Bytes.{is_line_end, is_blank}
 use Rattle.lines.specs.Lines.{split, longer, lines_of, words_of}
 use Rattle.lines.specs.declared.Run.TheVariants.{Line, Word}

@@ -1,7 +1,8 @@
 -- Lines, tokens and numbers. Assumes nothing.
 use Rattle.std.specs.Prelude.{Bool, true, false, ◌&&◌, ◌||◌, not, cond, List, [], ◌∷◌, map, ℕ, zero, suc, ◌+◌, ◌*◌, ◌-◌, eqb, get_or}
 use Rattle.std.proofs.Math.Option.{Option, none, some}
-use Rattle.lines.specs.Lists.{all, keep, is_empty}
+use Rattle.std.specs.List.{list_all as all, filter as keep}
+use Rattle.lines.specs.Lists.{is_empty}
 use Rattle.lines.specs.Bytes.{is_line_end, is_blank, is_digit, is_minus}
 
 -- one byte more in the first part

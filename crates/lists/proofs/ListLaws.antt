@@ -9,7 +9,7 @@ use native.Mathlib.Omega.{arith}
 use lib.ListN.{length}
 use lib.Dec.{eqb, leb}
 use borrow.Author.Tests.{eq-eqb, ne_eqb, eqb-true, eqb-false, le-leb, lt-leb, leb-true, leb-false}
-use Rattle.lines.specs.Lists.{all}
+use Rattle.std.specs.List.{list_all as all}
 use Rattle.lines.specs.Lines.{Token, number, minus, word, token_of}
 use Rattle.std.specs.Prelude.{Option as Answer, None, Some}
 use Rattle.lines.specs.Scan.{cap, tokens_from, end_at, word_at, literal_of, literal_at}

@@ -13,7 +13,7 @@ use lib.IntN.{ℤ}
 use lib.IntN.{pos as int}
 use lib.Dec.{eqb, leb}
 use borrow.Author.Tests.{eq-eqb, ne_eqb, eqb-true, leb-true, leb-false}
-use Rattle.lines.specs.Lists.{all}
+use Rattle.std.specs.List.{list_all as all}
 use Rattle.lines.specs.Lines.{Token, number, minus, word}
 use Rattle.std.specs.Prelude.{None, Some, Result, Ok, Err}
 use Rattle.lines.specs.Scan.{cap, tokens_from, literal_at}

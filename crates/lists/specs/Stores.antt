@@ -1,7 +1,7 @@
 -- Lists in a table: what the second pass stores, and the clauses of a table one after the other. Assumes nothing.
 use Rattle.std.specs.Prelude.{Result, Ok, Err, Bool, ◌&&◌, cond, List, [], ◌∷◌, ◌++◌, map, ℕ, zero, suc, ◌+◌, ◌*◌, min, eqb, leb, length, ℤ, pos}
 use Rattle.std.proofs.lemmas.List.Edits.{sets}
-use Rattle.lines.specs.Lists.{all}
+use Rattle.std.specs.List.{list_all as all}
 use Rattle.lines.specs.Lines.{Token, number, minus, word}
 use Rattle.lines.specs.Scan.{cap, tokens_from}
 use Rattle.rules.specs.Literals.{Lits}

@@ -1,6 +1,6 @@
 -- The line's literals against the clause's, over lists of codes. Assumes nothing.
 use Rattle.std.specs.Prelude.{Bool, true, false, cond, List, [], ◌∷◌, ℕ, ◌/◌}
-use Rattle.lines.specs.Lists.{all}
+use Rattle.std.specs.List.{list_all as all}
 use Rattle.rules.specs.Basics.{is_in}
 use Rattle.prefix.specs.Prefix.{is_existential}
 use Rattle.copies.specs.Copies.{image_of, images_of}

@@ -2,7 +2,7 @@
 #![tactic(auto)]
 
 ghost use Rattle.std.specs.Prelude.{◌≡◌, set};
-ghost use Rattle.lines.specs.Lists.{all};
+ghost use Rattle.std.specs.List.{list_all as all};
 ghost use Rattle.copies.specs.Marks.{Unmarked};
 ghost use Rattle.copies.specs.Copies.{image_of, words, stands_in, list_in, line_in};
 ghost use Rattle.literals.specs.Literals.{first_in, in_line, literals_fit};

@@ -9,7 +9,7 @@ use lib.ListN.{length, get_or, set, length-set, replicate, get_or-replicate, len
 use lib.Seq.{get_or-set_same, get_or-set_other}
 use lib.Dec.{eqb, leb}
 use borrow.Author.Tests.{eq-eqb, ne_eqb, eqb-true, eqb-false, le-leb, lt-leb, leb-true}
-use Rattle.lines.specs.Lists.{all}
+use Rattle.std.specs.List.{list_all as all}
 use Rattle.rules.specs.Basics.{is_in, distinct}
 use Rattle.rules.specs.Literals.{Lit, Lits, var}
 use Rattle.rules.specs.Codes.{code_of}

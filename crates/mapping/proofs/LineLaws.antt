@@ -11,7 +11,7 @@ use lib.IntN.{ℤ}
 use lib.Dec.{leb}
 use borrow.Author.Tests.{leb-true, le-leb, lt-leb}
 use Rattle.std.proofs.lemmas.Bool.{and_left, and_right}
-use Rattle.lines.specs.Lists.{all}
+use Rattle.std.specs.List.{list_all as all}
 use Rattle.lines.specs.Scan.{tokens_from}
 use Rattle.cells.specs.Cells.{cell_at, list_at, Kept}
 use Rattle.cells.proofs.Laws.{stored, kept_chain, kept_later}

@@ -10,7 +10,7 @@ use lib.ListN.{length, length-map}
 use lib.IntN.{ℤ}
 use lib.Dec.{leb}
 use borrow.Author.Tests.{le-leb, lt-leb, leb-true, leb-false}
-use Rattle.lines.specs.Lists.{all}
+use Rattle.std.specs.List.{list_all as all}
 use Rattle.lines.specs.Scan.{cap, tokens_from}
 use Rattle.prefix.specs.Prefix.{entry, Told}
 use Rattle.lists.specs.declared.MappingLists.{MappingLists}

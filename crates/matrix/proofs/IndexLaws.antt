@@ -9,7 +9,7 @@ use lib.ListN.{length, drop, get_or, set, length-set, length-append, length-take
 use lib.Seq.{get_or-set_same, get_or-set_other, set_out, drop-drop, drop_at, get_or-drop}
 use lib.IntN.{ℤ}
 use borrow.Author.Tests.{eq-eqb, ne_eqb, leb-true, leb-false, lt-ltb, le-ltb}
-use Rattle.lines.specs.Lists.{all}
+use Rattle.std.specs.List.{list_all as all}
 use Rattle.cells.specs.Cells.{cell_at, cells_of}
 use Rattle.cells.proofs.Laws.{cells_at}
 use Rattle.rules.specs.Literals.{Lits, var, vars}

@@ -6,7 +6,7 @@ use Prim.Native.Nat.{ℕ, ◌+◌, ◌*◌, ◌%◌, ◌<◌, ◌≤◌}
 use native.Mathlib.Omega.{arith}
 use lib.Dec.{eqb, ltb}
 use borrow.Author.Tests.{eq-eqb, ne_eqb, eqb-true, eqb-false, lt-ltb, le-ltb}
-use Rattle.lines.specs.Lists.{any}
+use Rattle.std.specs.List.{list_any as any}
 use Rattle.rules.specs.Basics.{is_in, distinct}
 use Rattle.rules.specs.Formula.{Formula, Bound, for_all, exists, bound_var, bound, is_for_all, is_exists, universal, existential, earlier, depends_on}
 use Rattle.rules.proofs.Kit.{clear, by_no, and_l, and_r, not_t, or_fl, or_fr, eqb_sym}

@@ -6,7 +6,7 @@ use Prim.Native.Nat.{ℕ, suc, ◌+◌, ◌-◌, ◌<◌, ◌≤◌}
 use native.Mathlib.Omega.{arith}
 use lib.ListN.{set, replicate}
 use lib.IntN.{ℤ, pos}
-use Rattle.lines.specs.Lists.{all}
+use Rattle.std.specs.List.{list_all as all}
 use Rattle.std.specs.List.{list_all}
 use Rattle.lists.specs.Stores.{puts}
 use Rattle.lists.proofs.StoreLaws.{puts_more}
@@ -28,8 +28,3 @@ module _ {t₀ : List ℤ} {n : ℕ} {t : List ℤ} {i : ℕ} (s : Zeroing t₀ 
   pub zeroing_end : n ≤ i → t ≡ puts t₀ 0 (replicate n 0)
   unfolding puts
   zeroing_end h = let e : n - i ≡ 0 = omega arith in ap (λ k. puts t i (replicate k 0)) (sym e) ∙ s.text
-
--- a test of all, as std has it
-pub all_listed : {A : Type 0} (p : A → Bool) (xs : List A) → list_all p xs ≡ all p xs
-all_listed p [] = refl
-all_listed p (x ∷ xs) = ap (λ b. p x && b) (all_listed p xs)

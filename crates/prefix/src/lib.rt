@@ -2,7 +2,7 @@
 #![tactic(auto)]
 
 ghost use Rattle.std.specs.Prelude.{◌≡◌, replicate};
-ghost use Rattle.lines.specs.Lists.{all};
+ghost use Rattle.std.specs.List.{list_all as all};
 ghost use Rattle.cells.specs.Cells.{list_at};
 ghost use Rattle.lists.specs.Stores.{puts};
 ghost use Rattle.prefix.specs.Prefix.{entry, is_universal, is_existential, dependency, narrower, is_bound};

@@ -1,7 +1,8 @@
 -- Laws of the end of the certificate. Assumes nothing.
 use mathlib.Core.Path.{◌≡◌, refl, ap, ap₂, sym, ◌∙◌}
 use mathlib.Core.Bool.{Bool, true, false, not, cond}
-use Rattle.lines.specs.Lists.{any, is_empty}
+use Rattle.std.specs.List.{list_any as any}
+use Rattle.lines.specs.Lists.{is_empty}
 use Rattle.rules.specs.Formula.{Formula}
 use Rattle.rules.specs.Limits.{Limits}
 use Rattle.rules.specs.Step.{◌unless◌, ◌then◌}

@@ -1,7 +1,7 @@
 -- From codes to the literals of the rules. Assumes nothing.
 use mathlib.Core.Path.{◌≡◌, refl, sym, ◌∙◌, ap, subst}
 use mathlib.Core.Logic.{inl, inr}
-use mathlib.Core.Bool.{Bool, true, false, not}
+use mathlib.Core.Bool.{Bool, true, false, not, cond}
 use mathlib.Core.List.{List, [], ◌∷◌, ◌++◌, map}
 use Prim.Native.Nat.{ℕ}
 use lib.Dec.{eqb}
@@ -23,7 +23,7 @@ module _ {A B : Type 0} (g : A → B) where
   map_append (x ∷ xs) ys = ap (λ zs. g x ∷ zs) (map_append xs ys)
 
 keep_step : (b : Bool) (m : ℕ) (d : List ℕ) (e : Lits) → map lit_of d ≡ e
-    → map lit_of (elim b as (λ _. List ℕ) [ true ↦ m ∷ d | false ↦ d ]) ≡ elim b as (λ _. Lits) [ true ↦ lit_of m ∷ e | false ↦ e ]
+    → map lit_of (cond b (m ∷ d) d) ≡ cond b (lit_of m ∷ e) e
 keep_step true m d e h = ap (λ (z : Lits). lit_of m ∷ z) h
 keep_step false m d e h = h
 
@@ -32,7 +32,7 @@ unfolding less_code
 less_lits x [] = refl
 less_lits x (m ∷ d) =
     keep_step (not (eqb m x)) m (less_code x d) (less (lit_of x) (map lit_of d)) (less_lits x d)
-    ∙ ap {B = Lits} (λ b. elim (not b) as (λ _. Lits) [ true ↦ lit_of m ∷ less (lit_of x) (map lit_of d) | false ↦ less (lit_of x) (map lit_of d) ]) (sym (same_lit m x))
+    ∙ ap {B = Lits} (λ b. cond (not b) (lit_of m ∷ less (lit_of x) (map lit_of d)) (less (lit_of x) (map lit_of d))) (sym (same_lit m x))
 
 -- GOOD TESTS on literals and on codes
 module _ (S : List (List ℕ)) where

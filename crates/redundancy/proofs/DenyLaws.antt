@@ -1,6 +1,6 @@
 -- Laws of a clause whose literals are made false. Assumes nothing.
 use mathlib.Core.Path.{◌≡◌, refl, sym, ◌∙◌, ap, subst}
-use mathlib.Core.Bool.{Bool, true, false, true≢false, not}
+use mathlib.Core.Bool.{Bool, true, false, true≢false, not, cond}
 use mathlib.Core.List.Memᴰ
 use mathlib.Core.List.{List, [], ◌∷◌, ◌++◌, append_assoc, append-nil}
 use Prim.Native.Nat.{ℕ, ◌<◌}
@@ -20,9 +20,9 @@ use Rattle.propagation.proofs.AnswerLaws.{settled_clash, settled_good}
 
 -- A CLAUSE LESS A LITERAL, where it is read
 less_step : (x l : ℕ) (c : List ℕ) (b : Bool) → not (eqb l x) ≡ b
-    → less_code x (l ∷ c) ≡ elim b as (λ _. List ℕ) [ true ↦ l ∷ less_code x c | false ↦ less_code x c ]
+    → less_code x (l ∷ c) ≡ cond b (l ∷ less_code x c) (less_code x c)
 unfolding less_code
-less_step x l c b e = ap (λ t. elim t as (λ _. List ℕ) [ true ↦ l ∷ less_code x c | false ↦ less_code x c ]) e
+less_step x l c b e = ap (λ t. cond t (l ∷ less_code x c) (less_code x c)) e
 
 pub less_end : (o : Option ℕ) (rest : List ℕ) → rest ≡ [] → less_of o rest ≡ []
 unfolding less_code

@@ -1,6 +1,6 @@
 -- What the contracts of additions say. Assumes nothing.
 use Rattle.std.specs.Prelude.{◌≡◌, Bool, true, false, not, ◌||◌, List, [], ◌∷◌, ◌++◌, map, ℕ, ◌<◌, eqb, get_or, Option, Some, None}
-use Rattle.lines.specs.Lists.{all, keep}
+use Rattle.std.specs.List.{list_all as all, filter as keep}
 use Rattle.rules.specs.Literals.{negate, holds}
 use Rattle.rules.specs.Codes.{lit_of, flip}
 use Rattle.rules.specs.Propagation.{rup, less, rat}

@@ -7,7 +7,7 @@ use Prim.Native.Nat.{ℕ, suc}
 use native.Mathlib.Omega.{arith}
 use lib.Dec.{eqb}
 use borrow.Author.Tests.{eqb-true, eqb-false, ne_eqb}
-use Rattle.lines.specs.Lists.{all, any}
+use Rattle.std.specs.List.{list_all as all, list_any as any}
 use Rattle.rules.specs.Basics.{is_in}
 use Rattle.rules.specs.Codes.{flip}
 use Rattle.rules.proofs.Kit.{clear, and_l, and_r, and_i, or_l, or_r, or_cases, not_of_f, by_no, by_yes, either, eqb_self, same_test, In, all_in, in_all_lem, in_any, any_in}

@@ -9,7 +9,7 @@ use lib.ListN.{length, get_or, set, replicate, length-set, length-replicate}
 use lib.Seq.{get_or-set_same, get_or-set_other}
 use borrow.Author.Tests.{eqb-true, eqb-false, le-leb}
 use Rattle.cells.proofs.Laws.{get_or_zeros}
-use Rattle.lines.specs.Lists.{all}
+use Rattle.std.specs.List.{list_all as all}
 use Rattle.rules.specs.Basics.{is_in}
 use Rattle.rules.proofs.Kit.{or_l, or_r, same_test, all_in, in_all_lem}
 use Rattle.resolvents.specs.Marks.{Clear, each, to, raise, lacks, in_all, covered}

@@ -1,10 +1,10 @@
 -- The test over codes is the rules' definition over literals, for all clauses. Assumes nothing.
 use mathlib.Core.Path.{◌≡◌, refl, sym, ◌∙◌, ap, ap₂, fun_ext}
-use mathlib.Core.Bool.{Bool, true, false, not, ◌&&◌, ◌||◌}
+use mathlib.Core.Bool.{Bool, true, false, not, ◌&&◌, ◌||◌, cond}
 use mathlib.Core.List.{List, [], ◌∷◌, ◌++◌, map}
 use Prim.Native.Nat.{ℕ}
 use lib.Dec.{eqb}
-use Rattle.lines.specs.Lists.{all, any}
+use Rattle.std.specs.List.{list_all as all, list_any as any}
 use Rattle.rules.specs.Basics.{is_in}
 use Rattle.rules.specs.Literals.{Lit, Lits, pos, neg, negate, same, holds, within}
 use Rattle.rules.specs.Codes.{code_of, lit_of}
@@ -55,7 +55,7 @@ module _ (l : Lit) where
   all_less p [] = refl
   all_less p (m ∷ d) = go (same m l) ∙ ap (λ t. (same m l || p m) && t) (all_less p d)
     where
-      go : (b : Bool) → all p (elim (not b) as (λ _. Lits) [ true ↦ m ∷ less l d | false ↦ less l d ]) ≡ ((b || p m) && all p (less l d))
+      go : (b : Bool) → all p (cond (not b) (m ∷ less l d) (less l d)) ≡ ((b || p m) && all p (less l d))
       go true = refl
       go false = refl
 
@@ -64,7 +64,7 @@ module _ (l : Lit) where
   holds_less (k ∷ d) m = go (same k l) refl (same m k) refl (holds_less d m)
     where
       go : (a : Bool) → same k l ≡ a → (b : Bool) → same m k ≡ b → holds (less l d) m ≡ (holds d m && not (same m l))
-          → holds (elim (not a) as (λ _. Lits) [ true ↦ k ∷ less l d | false ↦ less l d ]) m ≡ ((b || holds d m) && not (same m l))
+          → holds (cond (not a) (k ∷ less l d) (less l d)) m ≡ ((b || holds d m) && not (same m l))
       go true e true f h =
           let q = ap (λ z. same z l) (same_eq m k f) ∙ e in h ∙ ap (λ t. holds d m && not t) q ∙ and_false (holds d m) ∙ sym (ap not q)
       go true e false f h = h

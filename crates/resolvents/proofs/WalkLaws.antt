@@ -8,7 +8,7 @@ use lib.Dec.{eqb, leb}
 use lib.ListN.{get_or, set}
 use lib.Seq.{get_or-set_other}
 use borrow.Author.Tests.{eqb-true, eqb-false, ne_eqb}
-use Rattle.lines.specs.Lists.{all}
+use Rattle.std.specs.List.{list_all as all}
 use Rattle.cells.proofs.Laws.{zero_there, first_code}
 use Rattle.resolvents.specs.declared.Strays.{Strays}
 use Rattle.resolvents.specs.Marks.{each, raise, lacks, covered, meet, stray}

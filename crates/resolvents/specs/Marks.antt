@@ -1,6 +1,6 @@
 -- The marks, and the test over them. Assumes nothing.
 use Rattle.std.specs.Prelude.{◌≡◌, Bool, true, false, not, cond, ◌&&◌, ◌||◌, List, [], ◌∷◌, ℕ, ◌+◌, eqb, leb, length, get_or, set}
-use Rattle.lines.specs.Lists.{all}
+use Rattle.std.specs.List.{list_all as all}
 use Rattle.rules.specs.Codes.{flip}
 use Rattle.resolvents.specs.declared.Strays.{Strays}
 use Rattle.resolvents.specs.declared.Strays.TheVariants.{None, One, Several}

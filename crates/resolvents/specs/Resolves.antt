@@ -1,6 +1,6 @@
 -- The resolvent of two clauses as a test over lists of codes. Assumes nothing.
 use Rattle.std.specs.Prelude.{Bool, not, ◌&&◌, ◌||◌, List, ℕ, eqb}
-use Rattle.lines.specs.Lists.{all, any}
+use Rattle.std.specs.List.{list_all as all, list_any as any}
 use Rattle.rules.specs.Basics.{is_in}
 use Rattle.rules.specs.Codes.{flip}
 

@@ -3,7 +3,7 @@
 #![tactic(auto)]
 
 ghost use Rattle.std.specs.Prelude.{◌≡◌, ◌≤◌, eqb};
-ghost use Rattle.lines.specs.Lists.{any};
+ghost use Rattle.std.specs.List.{list_any as any};
 ghost use Rattle.cells.specs.Codes.{codes_left};
 ghost use Rattle.resolvents.specs.declared.Strays.TheVariants.{None};
 ghost use Rattle.resolvents.specs.Resolves.{resolves as resolvesCodes};

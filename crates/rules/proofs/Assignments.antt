@@ -5,7 +5,7 @@ use mathlib.Core.Bool.{true, false}
 use mathlib.Core.List.Memᴰ
 use mathlib.Core.List.{List, [], ◌∷◌, ◌++◌, map}
 use Prim.Native.Nat.{ℕ}
-use Rattle.lines.specs.Lists.{keep}
+use Rattle.std.specs.List.{filter as keep}
 use Rattle.rules.specs.Basics.{distinct}
 use Rattle.rules.specs.Literals.{Lit, pos, neg, Lits, var, negate, holds, both_signs}
 use Rattle.rules.specs.Formula.{Formula, bound, universal}

@@ -1,11 +1,11 @@
 -- Lists of numbers without repeats. Assumes nothing.
 use mathlib.Core.Path.{◌≡◌, refl, sym}
-use mathlib.Core.Bool.{Bool, true, false, not}
+use mathlib.Core.Bool.{Bool, true, false, not, cond}
 use mathlib.Core.List.Memᴰ
 use mathlib.Core.List.{List, [], ◌∷◌, ◌++◌}
 use Prim.Native.Nat.{ℕ}
 use lib.Dec.{eqb}
-use Rattle.lines.specs.Lists.{keep}
+use Rattle.std.specs.List.{filter as keep}
 use Rattle.rules.specs.Basics.{is_in, distinct}
 use Rattle.rules.proofs.Kit.{clear, and_l, and_r, and_i, not_t, not_of_f, by_yes, eqb_eq, eqb_self, either, In, in_any, any_in, in_keep}
 
@@ -26,7 +26,7 @@ pub distinct_keep : (p : ℕ → Bool) (ns : List ℕ) → distinct ns ≡ true 
 distinct_keep p [] d = refl
 distinct_keep p (n ∷ ns) d = go (p n) (distinct_keep p ns (distinct_tail n ns d))
   where
-    go : (b : Bool) → distinct (keep p ns) ≡ true → distinct (elim b as (λ _. List ℕ) [ true ↦ n ∷ keep p ns | false ↦ keep p ns ]) ≡ true
+    go : (b : Bool) → distinct (keep p ns) ≡ true → distinct (cond b (n ∷ keep p ns) (keep p ns)) ≡ true
     go true r =
         and_i (not (is_in (keep p ns) n)) (distinct (keep p ns))
         (not_of_f (by_yes (is_in (keep p ns) n) λ h.

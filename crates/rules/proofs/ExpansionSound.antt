@@ -4,7 +4,7 @@ use mathlib.Core.Bool.{Bool, true, not, ◌&&◌, ◌||◌}
 use mathlib.Core.List.Memᴰ
 use mathlib.Core.List.{List, map}
 use Prim.Native.Nat.{ℕ}
-use Rattle.lines.specs.Lists.{all}
+use Rattle.std.specs.List.{list_all as all}
 use Rattle.rules.specs.Basics.{distinct}
 use Rattle.rules.specs.Literals.{Lit, pos, neg, Lits, var, vars, negate, over, holds, within, same_set}
 use Rattle.rules.specs.Formula.{Formula, bound, universal, existential, depends_on}

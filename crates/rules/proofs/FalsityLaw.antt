@@ -3,7 +3,7 @@ use mathlib.Core.Path.{◌≡◌}
 use mathlib.Core.Logic.{inl, inr, ◌↔◌}
 use mathlib.Core.Bool.{true, not}
 use mathlib.Core.List.{List, [], ◌∷◌}
-use Rattle.lines.specs.Lists.{any}
+use Rattle.std.specs.List.{list_any as any}
 use Rattle.rules.specs.Literals.{Lits, pos, neg, holds}
 use Rattle.rules.specs.Formula.{Formula, Bound, for_all, exists}
 use Rattle.rules.specs.Falsity.{FalseUnder, False, false_under, is_false}

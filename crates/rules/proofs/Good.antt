@@ -8,7 +8,7 @@ use mathlib.Core.List.{List, [], ◌∷◌, map}
 use Prim.Native.Nat.{ℕ, zero, suc, ◌+◌, ◌≤◌, ◌<◌}
 use native.Mathlib.Omega.{arith}
 use lib.ListN.{length}
-use Rattle.lines.specs.Lists.{all}
+use Rattle.std.specs.List.{list_all as all}
 use Rattle.rules.specs.Basics.{sum}
 use Rattle.rules.specs.Literals.{Lit, pos, neg, Lits, negate, same, holds, both_signs}
 use Rattle.rules.specs.declared.Outcome.{Outcome}

@@ -1,13 +1,13 @@
 -- Tests as equations, and lists by membership.
 use mathlib.Core.Path.{◌≡◌, refl, sym, ap, ◌∙◌}
 use mathlib.Core.Logic.{◌⊎◌, inl, inr}
-use mathlib.Core.Bool.{Bool, true, false, not, ◌&&◌, ◌||◌, true≢false, false≢true}
+use mathlib.Core.Bool.{Bool, true, false, not, ◌&&◌, ◌||◌, true≢false, false≢true, cond}
 use mathlib.Core.List.Memᴰ
 use mathlib.Core.List.{List, [], ◌∷◌, Memᴰ}
 use Prim.Native.Nat.{ℕ}
 use native.Mathlib.Omega.{arith}
 use lib.Dec.{T, eqb, eqb→eq, eqb_refl}
-use Rattle.lines.specs.Lists.{any, all, keep}
+use Rattle.std.specs.List.{list_any as any, list_all as all, filter as keep}
 use Rattle.rules.specs.Literals.{Lit, pos, neg, var, negate, same, holds}
 
 -- two tests that follow from each other
@@ -142,11 +142,11 @@ module _ {A : Type 0} where
   any_in p [] h = absurd (false≢true h)
   any_in p (x ∷ xs) h = some_cons p x xs (sum_map (any_in p xs) (or_cases (p x) (any p xs) h))
 
-  keep_cons : (b : Bool) {x : A} (y : A) (xs : List A) → b ≡ true → x ≡ y → In x (elim b as (λ _. List A) [ true ↦ y ∷ xs | false ↦ xs ])
+  keep_cons : (b : Bool) {x : A} (y : A) (xs : List A) → b ≡ true → x ≡ y → In x (cond b (y ∷ xs) xs)
   keep_cons true y xs h e = Memᴰ.head e
   keep_cons false y xs h e = absurd (false≢true h)
 
-  keep_more : (b : Bool) {x : A} (y : A) {xs : List A} → In x xs → In x (elim b as (λ _. List A) [ true ↦ y ∷ xs | false ↦ xs ])
+  keep_more : (b : Bool) {x : A} (y : A) {xs : List A} → In x xs → In x (cond b (y ∷ xs) xs)
   keep_more true y m = Memᴰ.tail m
   keep_more false y m = m
 
@@ -162,7 +162,7 @@ module _ {A : Type 0} where
       more s = (Memᴰ.tail s.0, s.1)
 
       split : (b : Bool) → p y ≡ b → (In x (keep p ys) → In x ys × (p x ≡ true))
-          → In x (elim b as (λ _. List A) [ true ↦ y ∷ keep p ys | false ↦ keep p ys ]) → In x (y ∷ ys) × (p x ≡ true)
+          → In x (cond b (y ∷ keep p ys) (keep p ys)) → In x (y ∷ ys) × (p x ≡ true)
       split true e k m' = either (λ q. (Memᴰ.head q, ap p q ∙ e)) (λ m''. more (k m'')) (Memᴰ.cases_cons m')
       split false e k m' = more (k m')
 

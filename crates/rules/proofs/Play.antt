@@ -6,7 +6,7 @@ use mathlib.Core.List.Memᴰ
 use mathlib.Core.List.{List, [], ◌∷◌, map}
 use Prim.Native.Nat.{ℕ}
 use lib.Dec.{eqb}
-use Rattle.lines.specs.Lists.{any}
+use Rattle.std.specs.List.{list_any as any}
 use Rattle.rules.specs.Basics.{is_in, distinct}
 use Rattle.rules.specs.Literals.{Lit, pos, neg, Lits, var, holds}
 use Rattle.rules.specs.Formula.{Formula, Bound, for_all, exists, bound_var, bound, is_for_all, is_exists, universal, existential, earlier, left_of}

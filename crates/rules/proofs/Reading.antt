@@ -6,7 +6,8 @@ use mathlib.Core.Option.{Option, none, some}
 use Prim.Native.Nat.{ℕ, ◌+◌}
 use lib.Dec.{eqb, leb}
 use lib.ListN.{length}
-use Rattle.lines.specs.Lists.{all, is_empty}
+use Rattle.std.specs.List.{list_all as all}
+use Rattle.lines.specs.Lists.{is_empty}
 use Rattle.lines.specs.Lines.{lines_of}
 use Rattle.rules.specs.Basics.{is_in, distinct}
 use Rattle.rules.specs.Literals.{Lits, vars}

@@ -5,7 +5,8 @@ use mathlib.Core.List.Memᴰ
 use mathlib.Core.List.{List, [], ◌∷◌, ◌++◌, map}
 use Prim.Native.Nat.{ℕ, zero, suc}
 use lib.ListN.{length}
-use Rattle.lines.specs.Lists.{any, all, keep, is_empty}
+use Rattle.std.specs.List.{list_any as any, list_all as all, filter as keep}
+use Rattle.lines.specs.Lists.{is_empty}
 use Rattle.rules.specs.Basics.{without_first, sum}
 use Rattle.rules.specs.Literals.{Lit, Lits, negate, same, holds, both_signs}
 use Rattle.rules.specs.Propagation.{Look, falsified, unit, nothing, not_false, look_at, look, or_else, seek, after, turns, propagate, is_conflict, rup, less, rat}

@@ -9,7 +9,8 @@ use native.Mathlib.Omega.{arith}
 use borrow.Author.Tests.{ltb-true, leb-true, eqb-false}
 use lib.Dec.{eqb, leb, ltb}
 use lib.ListN.{length, get_or}
-use Rattle.lines.specs.Lists.{all, any, is_empty}
+use Rattle.std.specs.List.{list_all as all, list_any as any}
+use Rattle.lines.specs.Lists.{is_empty}
 use Rattle.lines.specs.Lines.{lines_of}
 use Rattle.rules.specs.Basics.{maybe}
 use Rattle.rules.specs.Literals.{Lits, vars, same_set}

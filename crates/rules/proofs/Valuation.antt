@@ -4,7 +4,7 @@ use mathlib.Core.Bool.{Bool, true, false, not, cond}
 use mathlib.Core.List.{List, [], ◌∷◌, ◌++◌}
 use Prim.Native.Nat.{ℕ}
 use lib.Dec.{eqb}
-use Rattle.lines.specs.Lists.{any, all}
+use Rattle.std.specs.List.{list_any as any, list_all as all}
 use Rattle.rules.specs.Literals.{Lit, pos, neg, Lits, var, negate, same, over, holds}
 use Rattle.rules.proofs.Kit.{and_l, and_r, and_i, not_of_f, by_yes, eqb_self, holds_in}
 use Rattle.rules.proofs.Assignments.{Apart}

@@ -2,7 +2,7 @@
 use Rattle.std.specs.Prelude.{Bool, true, false, ◌&&◌, not, ℕ, ◌+◌, max, eqb}
 use mathlib.Core.List.{List, [], ◌∷◌, foldr}
 use Rattle.std.proofs.Math.Option.{Option, none, some}
-use Rattle.lines.specs.Lists.{any}
+use Rattle.std.specs.List.{list_any as any}
 
 module _ {A : Type 0} where
   -- the list without its first element that passes the test

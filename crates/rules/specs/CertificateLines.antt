@@ -1,7 +1,8 @@
 -- The certificate's lines. Assumes nothing.
 use Rattle.std.specs.Prelude.{Bool, true, false, ◌&&◌, ◌||◌, List, [], ◌∷◌, ◌++◌, ℕ, ◌+◌, ◌-◌, eqb, leb, ltb, length, get_or}
 use Rattle.std.proofs.Math.Option.{Option, none, some}
-use Rattle.lines.specs.Lists.{all, any, is_empty}
+use Rattle.std.specs.List.{list_all as all, list_any as any}
+use Rattle.lines.specs.Lists.{is_empty}
 use Rattle.rules.specs.Basics.{without_first, maybe}
 use Rattle.rules.specs.Literals.{Lits, vars, same_set}
 use Rattle.rules.specs.Formula.{Formula}

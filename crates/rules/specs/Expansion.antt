@@ -1,7 +1,7 @@
 -- Mapping and expansion. Assumes nothing.
 use Rattle.std.specs.Prelude.{Bool, true, false, ◌&&◌, List, [], ◌∷◌, ◌++◌, map, ℕ, eqb}
 use Rattle.std.proofs.Math.Option.{Option}
-use Rattle.lines.specs.Lists.{all, any, keep}
+use Rattle.std.specs.List.{list_all as all, list_any as any, filter as keep}
 use Rattle.rules.specs.Basics.{distinct}
 use Rattle.rules.specs.Literals.{pos, neg, Lits, var, vars, negate, over, holds, same_set}
 use Rattle.rules.specs.Formula.{Formula, bound, universal, existential, depends_on}

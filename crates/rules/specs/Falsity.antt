@@ -2,7 +2,7 @@
 use Rattle.std.specs.Prelude.{◌≡◌, Bool, false, not, ◌&&◌, ◌||◌, ◌⊎◌, ℕ}
 use mathlib.Core.List.{List, [], ◌∷◌, Memᴰ}
 use Rattle.std.proofs.Math.Option.{Option, none, some}
-use Rattle.lines.specs.Lists.{any}
+use Rattle.std.specs.List.{list_any as any}
 use Rattle.rules.specs.Literals.{Lit, Lits, pos, neg, holds}
 use Rattle.rules.specs.Formula.{Formula, Bound, for_all, exists}
 use Rattle.rules.specs.Limits.{set_aside}

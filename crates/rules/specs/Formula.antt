@@ -1,6 +1,6 @@
 -- A formula as read, and what its prefix says of a variable. Assumes nothing.
 use Rattle.std.specs.Prelude.{Bool, true, false, ◌&&◌, List, [], ◌∷◌, map, ℕ, eqb}
-use Rattle.lines.specs.Lists.{any}
+use Rattle.std.specs.List.{list_any as any}
 use Rattle.rules.specs.Basics.{is_in}
 use Rattle.rules.specs.Literals.{Lits}
 

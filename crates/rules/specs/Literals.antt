@@ -1,6 +1,6 @@
 -- Literals, and clauses as lists that count as sets. Assumes nothing.
 use Rattle.std.specs.Prelude.{Bool, false, ◌&&◌, List, map, ℕ, eqb}
-use Rattle.lines.specs.Lists.{all, any}
+use Rattle.std.specs.List.{list_all as all, list_any as any}
 
 -- "A literal is a variable or its negative."
 pub data Lit : Type 0 where

@@ -1,6 +1,6 @@
 -- Propagation, RUP and RAT. Assumes nothing.
 use Rattle.std.specs.Prelude.{Bool, true, false, not, ◌&&◌, cond, List, [], ◌∷◌, ◌++◌, map, ℕ, zero, suc, length}
-use Rattle.lines.specs.Lists.{all, keep}
+use Rattle.std.specs.List.{list_all as all, filter as keep}
 use Rattle.rules.specs.Basics.{sum}
 use Rattle.rules.specs.Literals.{Lit, Lits, negate, same, holds, both_signs}
 use Rattle.rules.specs.declared.Outcome.{Outcome}

@@ -6,7 +6,7 @@ use Prim.Native.Nat.{ℕ, ◌+◌, ◌*◌, ◌<◌, ◌≤◌}
 use native.Mathlib.Omega.{arith}
 use lib.ListN.{length}
 use lib.IntN.{ℤ}
-use Rattle.lines.specs.Lists.{any}
+use Rattle.std.specs.List.{list_any as any}
 use Rattle.cells.specs.Cells.{Kept}
 use Rattle.rules.specs.Basics.{without_first}
 use Rattle.rules.specs.Literals.{Lits, same_set}

@@ -8,7 +8,7 @@ use native.Mathlib.Omega.{arith}
 use lib.Dec.{eqb, leb, ltb}
 use lib.ListN.{length, get_or, length-map}
 use borrow.Author.Tests.{leb-true, ltb-true, ne_eqb}
-use Rattle.lines.specs.Lists.{all, any}
+use Rattle.std.specs.List.{list_all as all, list_any as any}
 use Rattle.cells.specs.Cells.{list_at, code_at}
 use Rattle.lists.specs.Stores as stores
 use Rattle.lists.proofs.StoreLaws.{all_at}

@@ -4,7 +4,7 @@ use mathlib.Core.Bool.{Bool, ◌&&◌}
 use mathlib.Core.List.{List, [], ◌∷◌, map}
 use Prim.Native.Nat.{ℕ, ◌/◌}
 use Rattle.std.specs.List.{list_all}
-use Rattle.lines.specs.Lists.{all}
+use Rattle.std.specs.List.{list_all as all}
 use Rattle.rules.specs.Literals.{Lits, vars}
 use Rattle.rules.specs.Codes.{code_of}
 use Rattle.rules.specs.Expansion.{Copy, is_mapped}
@@ -21,8 +21,3 @@ mapped_all {noted} {m} h c e = ap (all (λ x. is_noted noted (x / 2))) e ∙ go 
     go : (d : Lits) → all (λ x. is_noted noted (x / 2)) (map code_of d) ≡ all (is_mapped m) (vars d)
     go [] = refl
     go (l ∷ d) = ap₂ ◌&&◌ (mapped_rule h l refl) (go d)
-
--- a test of all, as std has it
-pub all_listed : (p : ℕ → Bool) (xs : List ℕ) → list_all p xs ≡ all p xs
-all_listed p [] = refl
-all_listed p (x ∷ xs) = ap (λ b. p x && b) (all_listed p xs)

@@ -1,6 +1,6 @@
 -- The copies of a clause's codes. Assumes nothing.
 use Rattle.std.specs.Prelude.{Bool, List, ℕ, ◌/◌}
-use Rattle.lines.specs.Lists.{all}
+use Rattle.std.specs.List.{list_all as all}
 use Rattle.mapped.specs.Marks.{is_noted}
 
 -- every copy of these codes is mapped

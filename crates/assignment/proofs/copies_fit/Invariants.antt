@@ -1,6 +1,6 @@
 use mathlib.Core.Path.{◌≡◌}
 use lib.ListN.{length}
-use Rattle.lines.specs.Lists.{all}
+use Rattle.std.specs.List.{list_all as all}
 use Rattle.cells.specs.Codes.{codes_left}
 use Rattle.copies.specs.Copies.{words, stands_in, annotation_in, list_in, line_in}
 use Rattle.assignment.specs.Held.{Noted}

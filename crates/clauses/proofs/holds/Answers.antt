@@ -3,8 +3,7 @@ use Rattle.std.proofs.lemmas.Iterator.Search.{any_from_yields_List}
 use Rattle.std.proofs.lemmas.Iterator.Consumers.{YieldsList-from_first}
 use lib.Dec.{eqb}
 use Rattle.cells.specs.Codes.{codes_left}
-use Rattle.clauses.proofs.MemberLaws.{any_listed}
 use Rattle.clauses.proofs.holds.Goals as goal
 
 pub returns : goal.returns
-returns c = any_from_yields_List (eqb c.args.l) c.any.new.self _ _ c.any.ensures.ran (YieldsList-from_first (λ x. x) codes_left {s = c.args.clause} _ refl) (λ x b q k. search (rules, tests)) ∙ any_listed (eqb c.args.l) _
+returns c = any_from_yields_List (eqb c.args.l) c.any.new.self _ _ c.any.ensures.ran (YieldsList-from_first (λ x. x) codes_left {s = c.args.clause} _ refl) (λ x b q k. search (rules, tests))

@@ -1,5 +1,5 @@
 use mathlib.Core.Path.{◌≡◌}
-use Rattle.lines.specs.Lists.{all}
+use Rattle.std.specs.List.{list_all as all}
 use Rattle.cells.specs.Codes.{codes_left}
 use Rattle.copies.specs.Copies.{words, stands_in, line_in, list_in}
 use Rattle.literals.specs.Marks.{meets, stamped_by}

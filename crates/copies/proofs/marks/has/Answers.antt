@@ -3,10 +3,8 @@ use Rattle.std.proofs.lemmas.Iterator.Search.{any_from_yields_List}
 use Rattle.std.proofs.lemmas.Iterator.Consumers.{YieldsList-from_first}
 use lib.Dec.{eqb}
 use Rattle.cells.specs.Codes.{codes_left}
-use Rattle.copies.proofs.Members.{any_listed}
 use Rattle.copies.proofs.marks.has.Goals as goal
 
 pub returns : goal.returns
 returns c =
     any_from_yields_List (eqb c.args.y) c.any.new.self _ _ c.any.ensures.ran (YieldsList-from_first (λ x. x) codes_left {s = c.new.result} _ c.new.ensures.left) (λ x b q k. search (rules, tests))
-    ∙ any_listed (eqb c.args.y) _
