@@ -6,12 +6,6 @@ pub loop-k-init : goal.loop-k-init
 loop-k-init c = rw (c.into_iter-k-iterator.ensures.into_iter_gives, c.enumerate-k-items.ensures.source, c.enumerate-k-items.ensures.count, c.chunks_exact.ensures.rest, c.chunks_exact.ensures.size)
     (record { size = refl; left = omega arith; going = going_start _ _ _ _ _; lent = search rules })
 
-pub overflow_mul-k : goal.overflow_mul-k
-overflow_mul-k c = omega (arith, c.in-Some.ensures.steps.1, c.loop-k.invariant.left)
-
-pub check_one-requires : goal.check_one-requires
-check_one-requires c = omega (arith, c.in-Some.ensures.steps.1, c.loop-k.invariant.left)
-
 pub loop-k-preserved : goal.loop-k-preserved
 loop-k-preserved c = let s = c.in-Some.ensures.steps in
     let long = s.0.1.1 ∙ c.loop-k.invariant.size in
