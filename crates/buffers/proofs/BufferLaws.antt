@@ -27,9 +27,6 @@ use Rattle.buffers.specs.Buffers.{as_stored, first_codes, Buffered, StoresLine}
 pub record Keeping (bs : List ℕ) (at : ℕ) (b₀ : List ℕ) (i k : ℕ) (b : List ℕ) : Type 0 where
   pub codes : sets b k (codes_at bs i) ≡ sets b₀ 0 (codes_at bs at)
 
-pub keeping_start : {bs : List ℕ} {at : ℕ} {b : List ℕ} → Keeping bs at b at 0 b
-keeping_start = record { codes = refl }
-
 module _ {bs : List ℕ} {at : ℕ} {b₀ : List ℕ} {i k : ℕ} {b : List ℕ} (s : Keeping bs at b₀ i k b) where
   pub keeping_lost : literal_at bs i ≡ None → b ≡ sets b₀ 0 (codes_at bs at)
   keeping_lost p = ap (sets b k) (sym (codes_lost bs i p)) ∙ s.codes

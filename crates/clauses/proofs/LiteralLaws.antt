@@ -47,9 +47,6 @@ list_small t i m x = let s = in_up_to (drop i (codes_of t)) x in (code_small t (
 pub literal_small : (t : List ℤ) (i m : ℕ) → In m (list_at t i) → m < 65536
 literal_small t i m x = (list_small t i m x).0
 
-pub literal_some : (t : List ℤ) (i m : ℕ) → In m (list_at t i) → m ≡ 0 → ⊥
-literal_some t i m x = (list_small t i m x).1
-
 -- A TEST OF EVERY CODE, or of some, where it is known of codes alone
 module _ (p : ℕ → Bool) (t : List ℤ) (i : ℕ) where
   abbrev pub Gives : Bool → ℕ → Type 0

@@ -47,10 +47,6 @@ module _ (t ms : List ℤ) where
       go false q more = Memᴰ.append_left (part c) (more (omega (arith, eqb-false k c q)) e)
 
   -- none stands at the places between two
-  pub none_start : (k : ℕ) → NoneIn t ms k k
-  unfolding NoneIn
-  none_start k j a b = absurd (omega arith)
-
   pub none_more : (k m n : ℕ) → NoneIn t ms k m → NoneIn t ms m n → NoneIn t ms k n
   unfolding NoneIn
   none_more k m n h g j a b = go (leb m j) refl

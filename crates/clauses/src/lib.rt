@@ -95,6 +95,7 @@ impl Store {
     }
 
     // The pending clause, of n literals, stands from now on.
+    #[tactic(auto, unfolding(crate::specs::Standing::marks_need, crate::specs::Standing::grown))]
     pub fn stand(self, marks: &mut [i32], n: usize) -> Store
         ensures { StandsNow marks.old marks.new self n result }
     {

@@ -1,5 +1,5 @@
 -- Laws of values and of the trail. Assumes nothing.
-use mathlib.Core.Path.{◌≡◌, refl, sym, ◌∙◌, ap, ap₂, subst}
+use mathlib.Core.Path.{◌≡◌, refl, sym, ◌∙◌, ap, ap₂}
 use mathlib.Core.Logic.{◌⊎◌, inl, inr}
 use mathlib.Core.Bool.{Bool, true, false, cond, not}
 use mathlib.Core.List.{List, [], ◌∷◌}
@@ -95,10 +95,6 @@ module _ (f : List ℕ) (l : ℕ) where
       go : (b : Bool) → eqb k l ≡ b → off (set f l 1) k ≡ true
       go true z = ap (off (set f l 1)) (eqb-true k l z) ∙ off_same h
       go false z = unfold off in (ap (λ (x : ℕ). not (eqb x 0)) (get_or-set_other f l k 1 0 (eqb-false k l z)) ∙ q)
-
--- a literal by another name
-pub assumed_as : (f t : List ℕ) (n l : ℕ) (f' t' : List ℕ) (n' m : ℕ) → l ≡ m → Assumed f t n l f' t' n' → Assumed f t n m f' t' n'
-assumed_as f t n l f' t' n' m e a = subst (λ x. Assumed f t n x f' t' n') e a
 
 -- one that was not false lengthens the trail
 pub assumed_up : (f t : List ℕ) (n l : ℕ) (f' t' : List ℕ) (n' : ℕ) → Assumed f t n l f' t' n' → off f l ≡ false → (n < 65536) × (n' ≡ n + 1)
@@ -206,7 +202,3 @@ ready_start t h = ready_empty (replicate 65536 0) t record {
   long = h;
   listed = λ l e. absurd (clear e (off_no (replicate 65536 0) l (get_or_zeros 65536 l)));
 }
-
--- cut back to nothing
-pub ready_cut : {f t : List ℕ} {b : Trail} → Undone f t 0 b.falses × (b.literals ≡ t) × (b.length ≡ 0) → ReadyIn b
-ready_cut {f} {t} {b} u = rw (u.1, u.2) (ready_empty b.falses t u.0.trailed)
