@@ -16,7 +16,7 @@ use Rattle.lines.specs.Bytes.{is_line_end, is_blank}
 use Rattle.lines.specs.Lines.{split, longer, lines_of, words_of}
 use Rattle.lines.specs.declared.Run.TheVariants.{Line, Word}
 use Rattle.lines.specs.Scan.{passes, run}
-use Rattle.std.proofs.lemmas.List.{take_all}
+use Rattle.std.proofs.lemmas.List.{take_rest}
 use Rattle.lines.proofs.Here.{here, past}
 
 module _ (p : ℕ → Bool) where
@@ -102,11 +102,6 @@ module _ (p : ℕ → Bool) where
   Over bs i n = run p (drop i bs) ≡ n + run p (drop (i + n) bs)
 
   module _ (bs : List ℕ) (i : ℕ) where
-    pub over_none : Over bs i 0
-    over_none =
-        let q : i ≡ i + 0 = omega arith in
-        ap (λ m. run p (drop m bs)) q ∙ omega arith
-
     pub over_byte : (n : ℕ) → Over bs i n → i + n < length bs → p (get_or bs (i + n) 0) ≡ true → Over bs i (n + 1)
     over_byte n o h e =
         let q : i + n + 1 ≡ i + (n + 1) = omega arith in
@@ -159,13 +154,10 @@ module _ (p : ℕ → Bool) where
       go true h = omega arith
       go false h = omega arith
 
-  pub slice_from : (bs : List ℕ) (i : ℕ) → take (length bs - i) (drop i bs) ≡ drop i bs
-  slice_from bs i = take_all (length bs - i) (drop i bs) (omega (arith, length-drop i bs))
-
   -- the last eight bytes as a slice
   pub over_last : (bs : List ℕ) (i : ℕ) → 8 ≤ length bs → i ≡ length bs - 8 → run p (take (length bs - i) (drop i bs)) ≡ length (take (length bs - i) (drop i bs)) → Over bs i 8
   over_last bs i l h e =
-      let q : run p (drop i bs) ≡ length (drop i bs) = rw (slice_from bs i) at e in
+      let q : run p (drop i bs) ≡ length (drop i bs) = rw (take_rest bs i) at e in
       let z = run_past p bs (i + 8) (omega arith) in
       omega (arith, length-drop i bs)
 
@@ -204,9 +196,6 @@ module _ (bs : List ℕ) (i : ℕ) where
     pub low : n ≤ j
     pub goes_on : (more ≡ 0) ⊎ (more ≡ 1) × (n ≡ j)
     pub over : Over (passes Line) bs i n
-
-  pub counted_none : Counted 0 1 0
-  counted_none = record { low = omega arith; goes_on = inr (refl, refl); over = over_none (passes Line) bs i }
 
   pub counted_on : {n more j next : ℕ} → Counted n more j → i + j < length bs → next ≡ cond (is_line_end (get_or bs (i + j) 0)) 0 more → Counted (n + next) next (j + 1)
   counted_on {n} {more} {j} {next} k h q = go (is_line_end (get_or bs (i + j) 0)) refl q k.goes_on

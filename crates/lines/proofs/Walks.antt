@@ -1,21 +1,21 @@
 -- Laws of a number that is read in one walk. Assumes nothing.
 use mathlib.Core.Path.{◌≡◌, refl, ap, ap₂, sym, ◌∙◌}
-use mathlib.Core.Bool.{Bool, true, false, not, cond, ◌&&◌}
+use mathlib.Core.Bool.{Bool, true, false, not, cond}
 use mathlib.Core.List.{List, [], ◌∷◌}
 use mathlib.Core.Logic.{◌⊎◌, inl, inr}
 use Prim.Native.Nat.{ℕ, suc, ◌+◌, ◌*◌, ◌-◌, ◌<◌, ◌≤◌, min}
 use native.Mathlib.Omega.{arith}
 use lib.ListN.{length, take, drop, get_or, get_or-eq_default}
-use lib.Dec.{eqb, leb, ltb}
-use borrow.Author.Tests.{eqb-true, eqb-false, ne_eqb, leb-true, leb-false, ltb-true}
+use lib.Dec.{eqb, leb}
+use borrow.Author.Tests.{eqb-true, eqb-false, ne_eqb, leb-true, leb-false}
 use Rattle.std.specs.Prelude.{Option, None, Some}
 use Rattle.std.specs.Bool.{then_some}
 use Rattle.lines.specs.Bytes.{class_of, rank, is_blank, is_digit, is_minus}
 use Rattle.lines.specs.declared.Class.TheVariants.{Minus}
 use Rattle.lines.specs.declared.Run.TheVariants.{Word}
-use Rattle.lines.specs.Scan.{cap, passes, run, digits_in, number_in, literal_at}
+use Rattle.lines.specs.Scan.{cap, passes, run, digits_in, number_in, start_at, literal_at}
 use Rattle.lines.proofs.Here.{here, pair_of}
-use Rattle.lines.proofs.Classes.{and_true, held_not}
+use Rattle.lines.proofs.Classes.{held_not}
 use Rattle.lines.proofs.Runs.{run_past, run_stop, run_go, starts}
 use Rattle.lines.proofs.Numbers.{digit_below, on, on_digit, on_none, zero_alone, first_on, number_digits, number_signed, digits_capped}
 use Rattle.lines.proofs.Words.{literal_read}
@@ -35,23 +35,13 @@ NumberAt bs from v e = (e ≡ from + run (passes Word) (drop from bs)) × (digit
 abbrev pub Tells : List ℕ → ℕ → Option (ℕ × ℕ) → Type 0
 Tells bs from r = (v e : ℕ) → r ≡ Some (v, e) → NumberAt bs from v e
 
-pub tells_nothing : (bs : List ℕ) (from : ℕ) → Tells bs from None
-tells_nothing bs from v e q = absurd (let z : ◌≡◌ {A = ℕ} 0 1 = cc in omega arith)
-
 -- what the reader of a plain token tells
 abbrev pub Says : List ℕ → ℕ → Option (ℕ × ℕ) → Type 0
 Says bs at r = (x e : ℕ) → r ≡ Some (x, e) → literal_at bs at ≡ Some (x, e)
 
-pub says_nothing : (bs : List ℕ) (at : ℕ) → Says bs at None
-says_nothing bs at x e q = absurd (let z : ◌≡◌ {A = ℕ} 0 1 = cc in omega arith)
-
 sign_small : (t : Bool) {g : ℕ} → g ≡ cond t 1 0 → g ≤ 1
 sign_small true m = omega arith
 sign_small false m = omega arith
-
--- another digit can follow
-pub can_grow : (v : ℕ) → ltb 0 v && ltb v 10000000 ≡ true → (0 < v) × (v < 10000000)
-can_grow v e = let k = and_true (ltb 0 v) (ltb v 10000000) e in (ltb-true 0 v k.0, ltb-true v 10000000 k.1)
 
 module _ (bs : List ℕ) where
   -- a word ends at a blank
@@ -154,6 +144,11 @@ module _ (bs : List ℕ) where
       go true l = absurd (number_long from k (run_past (passes Word) bs from (leb-true (length bs) from l)))
       go false l = leb-false (length bs) from l
 
+  -- a blank is skipped
+  pub blank_skipped : (at : ℕ) → at < length bs → is_blank (get_or bs at 0) ≡ true → start_at bs (at + 1) ≡ start_at bs at
+  unfolding start_at
+  blank_skipped at h e = omega (arith, run_go is_blank bs at h e)
+
   -- past the end there is no minus
   no_minus : (s : ℕ) → length bs ≤ s → is_minus (get_or bs s 0) ≡ false
   no_minus s h = held_not Minus (get_or bs s 0) (λ q. omega (arith, get_or-eq_default bs 0 h))
@@ -175,6 +170,17 @@ module _ (bs : List ℕ) where
     -- its code fits
     pub code_fits : {v e : ℕ} → NumberAt bs (s + g) v e → 2 * v + g ≤ 2 * cap + 1
     code_fits {v} {e} k = omega (arith, digits_capped (take (e - (s + g)) (drop (s + g) bs)) refl k.1, sign_small (is_minus (get_or bs s 0)) m)
+
+    -- it does start at s
+    here_starts : {v e : ℕ} → NumberAt bs (s + g) v e → (s < length bs) × (is_blank (get_or bs s 0) ≡ false)
+    here_starts {v} {e} k = (omega (arith, number_within (s + g) k), go (is_minus (get_or bs s 0)) refl m)
+      where
+        go : (t : Bool) → is_minus (get_or bs s 0) ≡ t → g ≡ cond t 1 0 → is_blank (get_or bs s 0) ≡ false
+        go true q m = ap (λ n. eqb n 0) (eqb-true (rank (class_of (get_or bs s 0))) 3 q)
+        go false q m =
+            let p : s + g ≡ s = omega arith in
+            let n : NumberAt bs s v e = rw p at k in
+            ends_at s (number_within s n) ∙ ne_eqb (run (passes Word) (drop s bs)) 0 (number_long s n)
 
   -- the next token, s is its start and g its sign
   module _ (at : ℕ) {s : ℕ} (h : s ≡ at + run is_blank (drop at bs)) (l : s < length bs) where
@@ -203,3 +209,10 @@ module _ (bs : List ℕ) where
       go : (t : Bool) → leb g v ≡ t → then_some {T = ℕ × ℕ} t (2 * v + g, e) ≡ Some (x, y) → literal_at bs at ≡ Some (x, y)
       go true z q = sym (literal_walked at h (omega (arith, number_within (s + g) k)) m k (leb-true g v z)) ∙ q
       go false z q = absurd (let z : ◌≡◌ {A = ℕ} 0 1 = cc in omega arith)
+
+  pub plain_walked : (at s : ℕ) {g v e : ℕ} → start_at bs s ≡ start_at bs at → g ≡ cond (is_minus (get_or bs s 0)) 1 0 → NumberAt bs (s + g) v e → g ≤ v → Says bs at (Some (2 * v + g, e))
+  unfolding start_at
+  plain_walked at s {g} {v} {e} a m k =
+      let b = here_starts s m k in
+      let h : s ≡ at + run is_blank (drop at bs) = omega (arith, run_stop is_blank bs s b.0 b.1) in
+      λ z x y q. sym (literal_walked at h b.0 m k z) ∙ q

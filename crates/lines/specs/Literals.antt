@@ -14,7 +14,9 @@ literals_at s = s.at
 -- a call reads the next token: as a literal, with the place after it, from which the iterator goes on; or it is none, and the iterator stays there
 abbrev pub GivesLiteral : Literals → Option (ℕ × ℕ) → Literals → Type 0
 GivesLiteral old None new = (literal_at (literals_line old) (literals_at old) ≡ None) × (new ≡ old)
-GivesLiteral old (Some p) new = (literal_at (literals_line old) (literals_at old) ≡ Some p) × (literals_line new ≡ literals_line old) × (literals_at new ≡ p.1)
+GivesLiteral old (Some p) new =
+    (literal_at (literals_line old) (literals_at old) ≡ Some p)
+    × (literals_line new ≡ literals_line old) × (literals_at new ≡ p.1)
 
 -- a literal takes at least a byte
 abbrev pub bytes_left : Literals → Count

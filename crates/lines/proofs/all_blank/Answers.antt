@@ -2,11 +2,8 @@ use native.Mathlib.Omega.{arith}
 use mathlib.Core.Path.{◌≡◌, sym, ◌∙◌}
 use lib.ListN.{length}
 use Rattle.lines.proofs.Classes.{and_true}
-use Rattle.lines.proofs.Runs.{over_none, over_front, over_all}
+use Rattle.lines.proofs.Runs.{over_front, over_all}
 use Rattle.lines.proofs.all_blank.Goals as goal
-
-pub loop-b-init : goal.loop-b-init
-loop-b-init c = λ e. over_none _ c.args.block.now 0
 
 pub loop-b-preserved : goal.loop-b-preserved
 loop-b-preserved c = λ e. let t = and_true _ _ e in over_front _ _ _ (c.loop-b.invariant t.0) c.loop-b-test.true (sym c.is_blank-all.ensures ∙ t.1)

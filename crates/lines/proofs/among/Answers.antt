@@ -1,6 +1,6 @@
 use borrow.Author.Rules.{rules}
 use native.Mathlib.Omega.{arith}
-use mathlib.Core.Path.{◌≡◌, ◌∙◌}
+use mathlib.Core.Path.{◌∙◌}
 use Rattle.lines.proofs.Tables.{same_rank, among_none, among_more}
 use Rattle.lines.proofs.among.Goals as goal
 
@@ -10,6 +10,3 @@ loop-i-init c = (omega arith, search rules, among_none _ _ _)
 pub loop-i-preserved : goal.loop-i-preserved
 loop-i-preserved c = let k = c.loop-i.invariant in
     (omega (arith, k.0), search rules, among_more _ _ _ _ c.classes-classes.ensures _ k.0 (search rules) k.2 (c.eq.ensures ∙ same_rank _ _))
-
-pub returns : goal.returns
-returns c = let q : c.loop-i.i ≡ c.args.high = omega (arith, c.loop-i.invariant.1, c.loop-i-test.false) in rw q at c.loop-i.invariant.2

@@ -3,11 +3,8 @@ use mathlib.Core.Path.{◌≡◌, ap, sym, ◌∙◌}
 use mathlib.Core.Bool.{not}
 use lib.ListN.{length}
 use Rattle.lines.proofs.Runs.{or_false}
-use Rattle.lines.proofs.Runs.{over_none, over_front, over_all}
+use Rattle.lines.proofs.Runs.{over_front, over_all}
 use Rattle.lines.proofs.ends_within.Goals as goal
-
-pub loop-b-init : goal.loop-b-init
-loop-b-init c = λ e. over_none _ c.args.block.now 0
 
 pub loop-b-preserved : goal.loop-b-preserved
 loop-b-preserved c = λ e. let t = or_false _ _ e in over_front _ _ _ (c.loop-b.invariant t.0) c.loop-b-test.true (ap not (sym c.is_line_end-found.ensures ∙ t.1))

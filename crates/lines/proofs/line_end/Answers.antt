@@ -1,11 +1,10 @@
 use native.Mathlib.Omega.{arith}
-use mathlib.Core.Path.{refl, ap, sym, ◌∙◌}
+use mathlib.Core.Path.{ap, sym, ◌∙◌}
 use mathlib.Core.Bool.{not}
 use Prim.Native.Nat.{◌+◌}
-use Rattle.std.specs.Slice.Iter.{chunks_exact_rest, chunks_exact_size}
 use Rattle.lines.specs.declared.Run.TheVariants.{Line}
 use Rattle.lines.specs.Scan.{passes}
-use Rattle.lines.proofs.Runs.{run_le, none_past, none_here, slice_from, block_next, block_over, block_within}
+use Rattle.lines.proofs.Runs.{run_le, none_past, none_here, block_next, block_over, block_within}
 use Rattle.lines.proofs.line_end.Goals.{then-s-at-via-then-s-at, then-s-at-via-else-s-at+then-is_line_end}
 use Rattle.lines.proofs.line_end.Goals as goal
 
@@ -14,15 +13,6 @@ returns-then-s-at c = elim c.then-s-at.branch [
   | then-s-at-via-then-s-at w ↦ none_past (passes Line) _ _ w.if-s-at.true
   | then-s-at-via-else-s-at+then-is_line_end w ↦ none_here (passes Line) _ _ w.if-s-at.false (ap not (sym w.is_line_end.ensures ∙ w.if-is_line_end.true))
 ]
-
-pub loop-block-init : goal.loop-block-init
-loop-block-init c =
-    let e = c.into_iter-block-iterator.ensures.into_iter_gives in
-    let n = c.chunks_exact-block-items.ensures in
-    (ap chunks_exact_size e ∙ n.size, ap chunks_exact_rest e ∙ n.rest ∙ slice_from (passes Line) c.args.s.now c.args.at, refl)
-
-pub before_end-requires : goal.before_end-requires
-before_end-requires c = let n = c.in-Some.ensures.steps.1.1 ∙ c.loop-block.invariant.0 in omega arith
 
 pub overflow_add-i : goal.overflow_add-i
 overflow_add-i c = let l = c.loop-block.invariant in let s = c.in-Some.ensures.steps in
@@ -42,6 +32,3 @@ loop-block-preserved c = let l = c.loop-block.invariant in let s = c.in-Some.ens
     let n = s.1.1 ∙ l.0 in
     let r = block_over (passes Line) c.args.s.now c.loop-block.i _ _ d n (c.ends_within.ensures c.if-ends_within.false) in
     (s.0 ∙ l.0, (block_next (passes Line) c.args.s.now c.loop-block.i _ _ d n).0, l.2 ∙ ap (λ n. c.loop-block.i + n) r ∙ omega arith)
-
-pub returns : goal.returns
-returns c = c.past-2.ensures ∙ sym c.loop-block.invariant.2

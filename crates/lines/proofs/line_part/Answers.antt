@@ -4,12 +4,6 @@ use Rattle.lines.proofs.Runs.{line_within}
 use Rattle.lines.proofs.Parts.{start_within, part_is}
 use Rattle.lines.proofs.line_part.Goals as goal
 
-pub slice_bounds-result-count : goal.slice_bounds-result-count
-slice_bounds-result-count c = omega (arith, c.line_end-e.ensures)
-
-pub slice_bounds-result-start : goal.slice_bounds-result-start
-slice_bounds-result-start c = omega (arith, c.line_end-e.ensures)
-
 pub slice_bounds-result-end : goal.slice_bounds-result-end
 slice_bounds-result-end c = line_within _ c.line_start-at.result c.line_end-e.ensures (omega (arith, c.line_start-at.ensures, start_within c.args.line c.args.s.now))
 

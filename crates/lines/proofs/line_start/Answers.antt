@@ -13,9 +13,6 @@ loop-init c = left_start _ _ c.if-line-eq0.false
 pub returns-then-s-e : goal.returns-then-s-e
 returns-then-s-e c = let l = c.loop in left_none _ _ l.at (c.args.line - l.counter) l.invariant c.line_end-e.ensures (omega arith) c.if-s-e.true
 
-pub overflow_add-at : goal.overflow_add-at
-overflow_add-at c = omega (arith, c.if-s-e.false, c.well_formed)
-
 pub loop-preserved : goal.loop-preserved
 loop-preserved c = let l = c.loop in
     let e : c.args.line - l.counter - 1 ≡ c.args.line - (l.counter + 1) = omega arith in

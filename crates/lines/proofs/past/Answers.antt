@@ -1,12 +1,9 @@
 use native.Mathlib.Omega.{arith}
-use mathlib.Core.Path.{refl, ap, sym, ◌∙◌}
+use mathlib.Core.Path.{ap, sym, ◌∙◌}
 use Prim.Native.Nat.{◌+◌}
 use borrow.Author.Tests.{not-true, not-false}
 use Rattle.lines.proofs.Runs.{run_stop, run_go, run_whole}
 use Rattle.lines.proofs.past.Goals as goal
-
-pub loop-i-init : goal.loop-i-init
-loop-i-init c = refl
 
 pub returns-then-not-belongs : goal.returns-then-not-belongs
 returns-then-not-belongs c = sym (c.loop-i.invariant ∙ ap (λ n. c.loop-i.i + n) (run_stop _ _ c.loop-i.i c.loop-i-test.true (sym c.belongs.ensures ∙ not-true _ c.if-not-belongs.true-raw)) ∙ omega arith)
