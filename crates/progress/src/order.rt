@@ -22,10 +22,7 @@ pub fn before_additions(c: Counts) -> bool
 pub fn before_hints(p: Progress) -> bool
     ensures { result ≡ no_hints p }
 {
-    if p.hinted.is_some() {
-        return false;
-    }
-    p.counts.expansions == 0 && before_additions(p.counts)
+    p.hinted.is_none() && p.counts.expansions == 0 && before_additions(p.counts)
 }
 
 // There was an `o` line, and its hints are used up.

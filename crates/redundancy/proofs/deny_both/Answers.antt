@@ -1,13 +1,9 @@
-use mathlib.Core.Path.{refl, ap, sym, ◌∙◌}
-use mathlib.Core.List.{◌++◌, append-nil}
+use mathlib.Core.Path.{refl, ap, sym}
+use mathlib.Core.List.{◌++◌}
 use Rattle.cells.specs.Codes.{codes_left}
 use Rattle.redundancy.specs.Additions.{rest_of}
 use Rattle.redundancy.proofs.DenyLaws.{denied_as, denied_go, joined}
 use Rattle.redundancy.proofs.deny_both.Goals as goal
-
-pub returns-in-None : goal.returns-in-None
-returns-in-None c = λ r. let j = c.args.joined in
-    denied_as _ _ _ _ _ _ _ _ _ _ (sym (ap (λ o. codes_left j.c ++ rest_of o) c.in-None.is ∙ append-nil _)) c.in-Stable.is (c.deny.ensures r)
 
 pub returns-in-Some : goal.returns-in-Some
 returns-in-Some c = λ r.
