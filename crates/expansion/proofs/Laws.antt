@@ -261,15 +261,15 @@ module _ (prefix values maps proof matrix : List ℤ) (l c n : ℕ) (f : Formula
   unfolding negations
   negations_code [] h = refl
   negations_code (y ∷ ys) h =
-      ap (λ b. map flip (elim b as (λ _. List ℕ) [ true ↦ code_of y ∷ codes | false ↦ codes ])) (code_universal y (h y (Memᴰ.head refl)))
+      ap (λ b. map flip (cond b (code_of y ∷ codes) codes)) (code_universal y (h y (Memᴰ.head refl)))
       ∙ go (universal f (var y)) (negations_code ys λ z i. h z (Memᴰ.tail i))
     where
       codes : List ℕ
       codes = keep (λ k. is_universal w (k / 2)) (map code_of ys)
 
       go : (b : Bool) → map flip codes ≡ map code_of (map negate (universals f ys))
-          → map flip (elim b as (λ _. List ℕ) [ true ↦ code_of y ∷ codes | false ↦ codes ])
-          ≡ map code_of (map negate (elim b as (λ _. Lits) [ true ↦ y ∷ universals f ys | false ↦ universals f ys ]))
+          → map flip (cond b (code_of y ∷ codes) codes)
+          ≡ map code_of (map negate (cond b (y ∷ universals f ys) (universals f ys)))
       go true e = ap₂ (λ i j. i ∷ j) (sym (code_negate y)) e
       go false e = e
 
