@@ -29,7 +29,7 @@ fn all_marked(mut clause: Codes, trail: &Trail) -> bool
 
 // Whether a clause holds each literal on the trail.
 fn covers(clause: Codes, trail: &Trail) -> bool
-    ensures { trail.now.length ≤ 65536 → result ≡ all (is_in (codes_left clause.entry)) (list_in trail.now) }
+    ensures { result ≡ all (is_in (codes_left clause.entry)) (list_in trail.now) }
 {
     trail.as_slice().iter().all(|l| holds(clause, *l as u32))
 }

@@ -7,6 +7,7 @@ ghost use Rattle.derivations.specs.Judges.{counted_by, Judges, StandsAs, OnlyMar
 
 use crate::{Derivation, Progress, Reason, Work};
 use assignment::least::Least;
+use clauses::PLACES;
 use copies::View;
 use indexes::Indexes;
 use mapping::Mapped;
@@ -83,7 +84,7 @@ fn with_line(c: Counts, reason: Reason) -> Counts
 fn stand(p: Progress, d: Derivation, marks: &mut [i32], indexes: &mut Indexes) -> Progress
     ensures { StandsAs p d marks.old indexes.old result marks.new indexes.new }
 {
-    let place = (p.store.places() % 1073741824) as u32;
+    let place = (p.store.places() % PLACES) as u32;
     let store = p.store.stand(marks, d.size);
     indexes::note(indexes, d.index, place);
     Progress {

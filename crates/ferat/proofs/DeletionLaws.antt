@@ -1,20 +1,20 @@
 -- Laws of the deletion line. Assumes nothing.
 use mathlib.Core.Path.{◌≡◌, refl, ap, ap₂, sym, ◌∙◌, subst}
-use mathlib.Core.Bool.{Bool, true, false, ◌&&◌, ◌||◌, cond}
+use mathlib.Core.Bool.{Bool, true, false, ◌&&◌, ◌||◌, cond, false≢true}
 use mathlib.Core.List.{List, [], ◌∷◌, map}
 use Prim.Native.Nat.{ℕ, ◌%◌, ◌<◌, ◌≤◌}
 use native.Mathlib.Omega.{arith}
 use lib.Dec.{eqb, leb}
 use lib.ListN.{length, take}
 use borrow.Author.Tests.{eq-eqb, ne_eqb, le-leb, lt-leb, leb-true}
-use Rattle.std.specs.Prelude.{Result, Err, Some, None}
+use Rattle.std.specs.Prelude.{Result, Ok, Err, Some, None}
 use Rattle.rules.specs.declared.Rule.{Rule}
 use Rattle.rules.specs.declared.Rule.TheVariants.{Malformed, OutOfRange}
 use Rattle.lines.specs.Scan.{literal_at}
 use Rattle.cells.specs.Cells.{up_to}
 use Rattle.lists.specs.declared.Measure.{Measure}
-use Rattle.lists.specs.Lists.{lits_at, clause_at}
-use Rattle.lists.specs.Stores.{codes_at, written, in_range}
+use Rattle.lists.specs.Lists.{lits_at, clause_at, is_list}
+use Rattle.lists.specs.Stores.{codes_at, written, in_range, ending_at}
 use Rattle.lists.proofs.ListLaws.{all_low, listed_low, listed_high, listed_range}
 use Rattle.lists.proofs.FormLaws.{Seen, clause_told, as_clause, bad_clause}
 use Rattle.lists.proofs.StoreLaws.{codes_end, codes_more, codes_listed}
@@ -71,6 +71,18 @@ or_none false = refl
 or_move : (a b c : Bool) → (a || b) || c ≡ a || (b || c)
 or_move true b c = refl
 or_move false b c = refl
+
+-- how the walk over the line ends
+abbrev went : Result (Unit {0}) Rule → Bool
+went (Ok x) = true
+went (Err k) = false
+
+pub not_ended : {k : Rule} → ◌≡◌ {A = Result (Unit {0}) Rule} (Err k) (Ok tt) → ⊥
+not_ended e = false≢true (ap went e)
+
+pub ending_by : (bs : List ℕ) (at : ℕ) {b : Bool} → is_list bs at ≡ b → cond b (Ok tt) (Err Malformed) ≡ ending_at bs at
+unfolding ending_at
+ending_by bs at h = ap (λ b. cond b (Ok tt) (Err Malformed)) (sym h)
 
 module _ (bs : List ℕ) (at : ℕ) where
   pub listing_start : (t : Trail) → Listed t.falses t.literals t.length → t.length ≡ 0 → Partly bs at at t

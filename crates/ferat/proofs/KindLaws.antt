@@ -80,7 +80,7 @@ module _ (bs : List ℕ) (t : Tables) (f : Formula) (s : State) where
       other_plain certificate_line judging s bs (clause_form addition) h
       (λ w ts long. plain_line w ts (one_byte w 120 long) (one_byte w 111 long) (one_byte w 101 long) (one_byte w 100 long))
 
-  kind_means : Means (kind_of (head_of bs))
+  pub kind_means : Means (kind_of (head_of bs))
   kind_means = go (head_of bs) refl
     where
       go : (h : Head) → head_of bs ≡ h → Means (kind_of h)

@@ -1,6 +1,6 @@
 // The deletion line.
-ghost use Rattle.std.specs.Prelude.{◌≡◌, true, false};
-ghost use Rattle.lists.specs.Lists.{is_list};
+ghost use Rattle.std.specs.Prelude.{◌≡◌, Ok};
+ghost use Rattle.lists.specs.Stores.{ending_at};
 ghost use Rattle.rules.specs.Forms.{clause_form, deletion};
 ghost use Rattle.tables.specs.Tables.{Tables};
 ghost use Rattle.tables.specs.Lent.{tables_of, SameLent};
@@ -16,18 +16,18 @@ use rules::Rule;
 use tables::LentTables;
 use trail::Trail;
 
-// Puts the line's literals from a place on onto the empty trail, each once; false at a token that is no literal.
-fn list_line(line: &[u8], at: usize, trail: &mut Trail) -> bool
-    ensures listed { ListedIn trail.old → trail.old.length ≡ 0 → result ≡ true → LineListed line.now at trail.new }
-    ensures bad { result ≡ false → is_list line.now at ≡ false }
+// Puts the line's literals from a place on onto the empty trail, each once, up to the zero after them.
+fn list_line(line: &[u8], at: usize, trail: &mut Trail) -> Result<(), Rule>
+    ensures listed { ListedIn trail.old → trail.old.length ≡ 0 → result ≡ Ok tt → LineListed line.now at trail.new }
+    ensures ended { result ≡ ending_at line.now at }
 {
     for (x, _) in Literals::new(line, at) {
         if x == 0 {
-            return true;
+            return Ok(());
         }
         deletion::list_literal(trail, x % 65536);
     }
-    false
+    Err(Rule::Malformed)
 }
 
 // `d` literals `0`. Its literals are written into no table: they are listed on the trail, which is emptied first.
@@ -52,8 +52,6 @@ pub fn deletion_line(
         return Err(Rule::OutOfRange);
     }
     work.propagation.trail.undo(0);
-    if !list_line(line, at, &mut work.propagation.trail) {
-        return Err(Rule::Malformed);
-    }
+    list_line(line, at, &mut work.propagation.trail)?;
     steps::delete(p, tables, work)
 }

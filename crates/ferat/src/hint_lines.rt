@@ -6,7 +6,7 @@ ghost use Rattle.tables.specs.Lent.{tables_of, SameLent};
 ghost use Rattle.progress.specs.declared.Work.{Work};
 ghost use Rattle.ferat.specs.Lines.{Line, hinted_in, with_proof};
 
-use clauses::Store;
+use clauses::{PLACES, Store};
 use progress::Progress;
 use rules::Rule;
 use tables::LentTables;
@@ -17,7 +17,7 @@ fn with_hints(p: Progress, n: usize) -> Progress
 {
     Progress {
         hinted: Some(n),
-        store: Store::above(n % 1073741824 + 1),
+        store: Store::above(n % PLACES + 1),
         ..p
     }
 }

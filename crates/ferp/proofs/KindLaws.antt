@@ -59,7 +59,7 @@ module _ (bs : List ℕ) (t : Tables) (f : Formula) (s : Derived) where
   unfolding judged
   other_means h = other_plain ferp_line judging s bs derivation_form h (λ w ts long. plain_line w ts (one_byte w 120 long))
 
-  kind_means : Means (kind_of (head_of bs))
+  pub kind_means : Means (kind_of (head_of bs))
   kind_means = go (head_of bs) refl
     where
       go : (h : Head) → head_of bs ≡ h → Means (kind_of h)

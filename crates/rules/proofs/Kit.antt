@@ -9,7 +9,6 @@ use native.Mathlib.Omega.{arith}
 use lib.Dec.{T, eqb, eqb→eq, eqb_refl}
 use Rattle.std.specs.List.{list_any as any, list_all as all, filter as keep}
 use Rattle.rules.specs.Literals.{Lit, pos, neg, var, negate, same, holds}
-
 -- two tests that follow from each other
 pub use Rattle.std.specs.Cmp.{both_ways as same_test}
 

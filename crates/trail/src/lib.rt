@@ -31,7 +31,7 @@ impl Trail {
 
     // The literals on the trail.
     pub fn as_slice(&self) -> &[u16]
-        ensures { (self.now.length ≤ 65536) → result.now ≡ take self.now.length self.now.literals }
+        ensures { result.now ≡ take self.now.length self.now.literals }
     {
         &self.literals[..self.length.min(65536)]
     }

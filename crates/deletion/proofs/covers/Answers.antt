@@ -7,7 +7,7 @@ use Rattle.rules.specs.Basics.{is_in}
 use Rattle.deletion.proofs.covers.Goals as goal
 
 pub returns : goal.returns
-returns c = λ l.
+returns c =
     let p = is_in (codes_left c.args.clause) in
     all_from_yields_List p _ _ _ c.all.ensures.ran (YieldsList-from_slice c.as_slice.result.now cc) (λ x b q k. search (rules, tests))
-    ∙ ap (all p) (c.as_slice.ensures l)
+    ∙ ap (all p) c.as_slice.ensures

@@ -1,4 +1,3 @@
-use native.Mathlib.Omega.{arith}
 use mathlib.Core.Path.{refl, sym, ◌∙◌, ap}
 use mathlib.Core.Bool.{◌&&◌}
 use Rattle.std.specs.List.{list_all as all}
@@ -10,7 +9,7 @@ use Rattle.deletion.proofs.is_same.Goals as goal
 
 pub returns-then-all_marked : goal.returns-then-all_marked
 returns-then-all_marked c = λ l.
-    ap (λ b. b && c.covers.result) (sym c.if-all_marked.true) ∙ same_by _ _ _ l _ c.all_marked.ensures (c.covers.ensures (omega (arith, l.trailed.shape.room)))
+    ap (λ b. b && c.covers.result) (sym c.if-all_marked.true) ∙ same_by _ _ _ l _ c.all_marked.ensures c.covers.ensures
 
 pub returns-else-all_marked : goal.returns-else-all_marked
 returns-else-all_marked c = λ l.

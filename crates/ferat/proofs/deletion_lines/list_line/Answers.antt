@@ -1,11 +1,10 @@
 use native.Mathlib.Omega.{arith}
 use mathlib.Core.Path.{refl, ap, sym, ◌∙◌}
-use Rattle.rules.proofs.Kit.{clear}
 use Rattle.lines.specs.Scan.{literal_at}
 use Rattle.lines.specs.Literals.{literals_line, literals_at}
 use Rattle.lists.specs.Lists.{is_list}
-use Rattle.lists.proofs.ListLaws.{is_lost, is_more}
-use Rattle.ferat.proofs.DeletionLaws.{listing_start, listing_done, listing_next, line_end, line_more}
+use Rattle.lists.proofs.ListLaws.{is_lost, is_end, is_more}
+use Rattle.ferat.proofs.DeletionLaws.{listing_start, listing_done, listing_next, line_end, line_more, not_ended, ending_by}
 use Rattle.ferat.proofs.deletion_lines.list_line.Goals as goal
 
 pub loop-x-init : goal.loop-x-init
@@ -19,17 +18,17 @@ pub returns : goal.returns
 returns c =
     let i = c.loop-x.invariant in
     record {
-      listed = λ h e q. absurd (clear q refl);
-      bad = λ q. sym i.list ∙ is_lost _ (literals_at c.loop-x.x-iterator) (ap (λ t. literal_at t (literals_at c.loop-x.x-iterator)) (sym i.line) ∙ c.in-None.ensures.steps.0);
+      listed = λ h e q. absurd (not_ended q);
+      ended = ending_by _ _ (sym i.list ∙ is_lost _ (literals_at c.loop-x.x-iterator) (ap (λ t. literal_at t (literals_at c.loop-x.x-iterator)) (sym i.line) ∙ c.in-None.ensures.steps.0));
     }
 
 pub returns-then-x-eq0 : goal.returns-then-x-eq0
 returns-then-x-eq0 c =
     let i = c.loop-x.invariant in
+    let read = ap (λ t. literal_at t (literals_at c.loop-x.x-iterator)) (sym i.line) ∙ c.in-Some.ensures.steps.0 in
     record {
-      listed = λ h e q. listing_done _ _ (i.listed h e)
-          (line_end _ (literals_at c.loop-x.x-iterator) (ap (λ t. literal_at t (literals_at c.loop-x.x-iterator)) (sym i.line) ∙ c.in-Some.ensures.steps.0) c.if-x-eq0.true);
-      bad = λ q. absurd (clear refl q);
+      listed = λ h e q. listing_done _ _ (i.listed h e) (line_end _ (literals_at c.loop-x.x-iterator) read c.if-x-eq0.true);
+      ended = ending_by _ _ (sym i.list ∙ is_end _ (literals_at c.loop-x.x-iterator) read c.if-x-eq0.true);
     }
 
 pub loop-x-preserved : goal.loop-x-preserved
