@@ -26,7 +26,8 @@ fn negated(y: usize) -> usize
 impl<'a> Least<'a> {
     ghost use Rattle.std.specs.Prelude.{◌≡◌, [], ◌∷◌, ◌<◌, ◌≤◌, take};
     ghost use Rattle.rules.specs.Basics.{is_in};
-    ghost use Rattle.copies.specs.Copies.{words, annotation_in, list_in, line_in};
+    ghost use Rattle.cells.specs.Codes.{codes_left};
+    ghost use Rattle.copies.specs.Copies.{words, annotation_in, line_in};
     ghost use Rattle.assignment.specs.Held.{is_new, adding, joined};
     ghost use Rattle.assignment.specs.Least.{items_of, HeldIn, HoldsIn, IsEmpty, SameArrays};
     ghost use Rattle.assignment.specs.Annotations.{apart, negations, annotations_of, part_size};
@@ -73,13 +74,13 @@ impl<'a> Least<'a> {
         }
     }
 
-    // Adds the literals from place a of the map on.
+    // Adds the literals of these codes.
     #[tactic(auto, unfolding(crate::specs::Held::joined))]
-    fn join(&mut self, map: &[i32], a: usize)
+    fn join(&mut self, codes: Codes)
         ensures lent { SameArrays self.old self.new }
-        ensures held { HeldIn self.old → HoldsIn self.new (joined (items_of self.old) (list_in map.now a)) }
+        ensures held { HeldIn self.old → HoldsIn self.new (joined (items_of self.old) (codes_left codes.entry)) }
     {
-        for y in Codes::new(map, a) {
+        for y in codes {
             self.add(y as usize);
         }
     }
@@ -95,7 +96,7 @@ impl<'a> Least<'a> {
         for x in view.codes() {
             let a = view.annotation_at(x as usize / 2);
             if a != last {
-                self.join(view.map, a);
+                self.join(Codes::new(view.map, a));
                 last = a;
             }
         }
@@ -114,12 +115,12 @@ impl<'a> Least<'a> {
 
     // Adds the negations of the clause's universal literals.
     #[tactic(auto, using(crate::proofs::Arms::joins), unfolding(crate::specs::Held::joined, crate::specs::Annotations::negations))]
-    pub(crate) fn join_negations(&mut self, view: View, matrix: &[i32], c: usize)
+    pub(crate) fn join_negations(&mut self, view: View, clause: Codes)
         ensures lent { SameArrays self.old self.new }
         ensures held { HeldIn self.old
-            → HoldsIn self.new (joined (items_of self.old) (negations (words view.entry) (list_in matrix.now c))) }
+            → HoldsIn self.new (joined (items_of self.old) (negations (words view.entry) (codes_left clause.entry))) }
     {
-        for y in Codes::new(matrix, c) {
+        for y in clause {
             self.join_negation(view, y as usize);
         }
     }

@@ -5,6 +5,7 @@ pub mod least;
 
 ghost use Rattle.std.specs.Prelude.{◌≡◌, cond, false, length};
 ghost use Rattle.std.specs.List.{list_all as all};
+ghost use Rattle.cells.specs.Codes.{codes_left};
 ghost use Rattle.copies.specs.Copies.{words, stands_in, annotation_in, list_in, line_in};
 ghost use Rattle.assignment.specs.Held.{Noted};
 ghost use Rattle.assignment.specs.Least.{items_of, HeldIn, IsEmpty, SameArrays};
@@ -47,20 +48,18 @@ fn is_part(sizes: &mut [u16], view: View, least: &Least, e: usize, long: usize) 
     long == least.count || size_of(sizes, view, least, e) == long
 }
 
-// How many literals there are from place a of the map on.
+// How many literals there are from place a of the map on, where there are `long` from place `last` on: copies of one mapping line share the
+// place of their annotation.
 #[tactic(auto, using(crate::proofs::Arms::codes_bound))]
-fn length_at(map: &[i32], a: usize) -> usize
-    ensures { result ≡ length (list_in map.now a) }
-{
-    Codes::new(map, a).count()
-}
-
-// The same where there are `long` from place `last` on: copies of one mapping line share the place of their annotation.
 fn length_next(map: &[i32], last: usize, long: usize, a: usize) -> usize
     requires { long ≡ length (list_in map.now last) }
     ensures { result ≡ length (list_in map.now a) }
 {
-    if a == last { long } else { length_at(map, a) }
+    if a == last {
+        long
+    } else {
+        Codes::new(map, a).count()
+    }
 }
 
 // Each copy's annotation is as long as its part of t.
@@ -101,14 +100,14 @@ fn fit_least(view: View, least: &Least) -> bool
 // The line's copies are annotated by one assignment that makes the clause's universal literals false. Nothing is held in `least`, before and
 // after.
 #[tactic(auto, using(crate::proofs::Arms::joins, crate::proofs::HeldLaws::holds_none), unfolding(crate::specs::Annotations::annotations_fit, crate::specs::Annotations::least_of))]
-pub fn annotations_fit(view: View, matrix: &[i32], c: usize, least: &mut Least) -> bool
+pub fn annotations_fit(view: View, clause: Codes, least: &mut Least) -> bool
     ensures lent { SameArrays least.old least.new }
     ensures answer { IsEmpty least.old
         → (result ≡ annotations_fit (words view.entry) (stands_in view.entry)
-        (annotation_in view.entry) (line_in view.entry) (list_in matrix.now c))
+        (annotation_in view.entry) (line_in view.entry) (codes_left clause.entry))
         × IsEmpty least.new }
 {
-    least.join_negations(view, matrix, c);
+    least.join_negations(view, clause);
     least.join_annotations(view);
     let fits = fit_least(view, least);
     least.take_back();

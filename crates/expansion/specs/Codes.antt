@@ -3,7 +3,7 @@ use Rattle.std.specs.Prelude.{Bool, false, cond, List, ℕ, ◌-◌, ℤ}
 use Rattle.cells.specs.Cells.{list_at}
 use Rattle.prefix.specs.Prefix.{entry}
 use Rattle.matrix.specs.Index.{place_at, any_from}
-use Rattle.copies.specs.Copies.{stands_of, annotation_of}
+use Rattle.copies.specs.Copies.{stands_of, annotation_of, words, stands_in, annotation_in, line_in}
 use Rattle.copies.specs.declared.View.{View}
 use Rattle.literals.specs.Literals.{literals_fit}
 use Rattle.assignment.specs.Annotations.{annotations_fit}
@@ -30,8 +30,8 @@ unfoldable pub expands_any : List ℤ → List ℤ → List ℤ → List ℤ →
 expands_any prefix values maps proof l matrix starts c = any_from (expands_at prefix values maps proof l matrix) starts 0 c
 
 -- THE SAME AS CONTRACTS NAME THEM: of the tables that a view shows
-abbrev pub expands_in : View → List ℤ → ℕ → Bool
-expands_in view = expands_at view.prefix.now view.values.now view.map.now view.proof.now view.line
+abbrev pub expands_in : View → List ℕ → Bool
+expands_in view = expands_codes (words view) (stands_in view) (annotation_in view) (line_in view)
 
 abbrev pub expands_named_in : View → List ℤ → List ℕ → ℕ → Bool
 expands_named_in view = expands_named view.prefix.now view.values.now view.map.now view.proof.now view.line

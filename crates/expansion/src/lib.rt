@@ -2,25 +2,27 @@
 #![tactic(auto)]
 
 ghost use Rattle.std.specs.Prelude.{◌≡◌};
+ghost use Rattle.cells.specs.Codes.{codes_left};
 ghost use Rattle.assignment.specs.Least.{IsEmpty, SameArrays};
 ghost use Rattle.expansion.specs.Codes.{expands_in, expands_named_in, expands_any_in};
 
 use assignment::least::Least;
+use cells::Codes;
 use copies::View;
 use matrix::Starts;
 
-// The clause's codes stand in `matrix` from place c on, up to a 0.
-#[tactic(auto, unfolding(crate::specs::Codes::expands_at, crate::specs::Codes::expands_codes))]
-pub fn expands(view: View, matrix: &[i32], c: usize, least: &mut Least) -> bool
+// Whether the line is an expansion of the clause.
+#[tactic(auto, unfolding(crate::specs::Codes::expands_codes))]
+pub fn expands(view: View, clause: Codes, least: &mut Least) -> bool
     ensures lent { SameArrays least.old least.new }
-    ensures answer { IsEmpty least.old → (result ≡ expands_in view.entry matrix.now c) × IsEmpty least.new }
+    ensures answer { IsEmpty least.old → (result ≡ expands_in view.entry (codes_left clause.entry)) × IsEmpty least.new }
 {
-    literals::literals_fit(view, matrix, c, least.seen)
-        && assignment::annotations_fit(view, matrix, c, least)
+    literals::literals_fit(view, clause, least.seen)
+        && assignment::annotations_fit(view, clause, least)
 }
 
 // The same of clause n, counted from 1.
-#[tactic(auto, unfolding(crate::specs::Codes::expands_named))]
+#[tactic(auto, unfolding(crate::specs::Codes::expands_named, crate::specs::Codes::expands_at))]
 pub fn expands_named(
     view: View,
     matrix: &[i32],
@@ -31,7 +33,7 @@ pub fn expands_named(
     ensures lent { SameArrays least.old least.new }
     ensures answer { IsEmpty least.old → (result ≡ expands_named_in view.entry matrix.now starts.now n) × IsEmpty least.new }
 {
-    expands(view, matrix, matrix::named(starts, n), least)
+    expands(view, Codes::new(matrix, matrix::named(starts, n)), least)
 }
 
 // The same of one of the first c clauses. Most of them are told by the line's first literal, without the marks of `expands`.
@@ -41,8 +43,8 @@ pub fn expands_any(view: View, matrix: &[i32], starts: &Starts, c: usize, least:
     ensures answer { IsEmpty least.old → (result ≡ expands_any_in view.entry matrix.now starts.now c) × IsEmpty least.new }
 {
     for i in 0..c {
-        let k = matrix::place(starts, i);
-        if literals::first_in_clause(view, matrix, k) && expands(view, matrix, k, least) {
+        let clause = Codes::new(matrix, matrix::place(starts, i));
+        if literals::first_in_clause(view, clause) && expands(view, clause, least) {
             return true;
         }
     }

@@ -1,6 +1,5 @@
 use mathlib.Core.Path.{◌≡◌}
 use Rattle.cells.specs.Codes.{codes_left}
-use Rattle.copies.specs.Copies.{list_in}
 use Rattle.assignment.specs.Held.{joined}
 use Rattle.assignment.specs.Least.{items_of, HeldIn, SameArrays}
 use Rattle.assignment.proofs.least.Least.join.Given as goal
@@ -9,5 +8,5 @@ abbrev pub invariant-loop-y : goal.invariant-loop-y
 invariant-loop-y l = record {
   lent : SameArrays l.initial.self l.self;
   held : HeldIn l.initial.self
-      → HeldIn l.self × (joined (items_of l.self) (codes_left l.y-iterator) ≡ joined (items_of l.initial.self) (list_in l.map l.a));
+      → HeldIn l.self × (joined (items_of l.self) (codes_left l.y-iterator) ≡ joined (items_of l.initial.self) (codes_left l.codes));
 }

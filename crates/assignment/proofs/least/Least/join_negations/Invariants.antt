@@ -1,6 +1,6 @@
 use mathlib.Core.Path.{◌≡◌}
 use Rattle.cells.specs.Codes.{codes_left}
-use Rattle.copies.specs.Copies.{words, list_in}
+use Rattle.copies.specs.Copies.{words}
 use Rattle.assignment.specs.Held.{joined}
 use Rattle.assignment.specs.Least.{items_of, HeldIn, SameArrays}
 use Rattle.assignment.specs.Annotations.{negations}
@@ -12,5 +12,5 @@ invariant-loop-y l = record {
   held : HeldIn l.initial.self
       → HeldIn l.self
       × (joined (items_of l.self) (negations (words l.view) (codes_left l.y-iterator))
-      ≡ joined (items_of l.initial.self) (negations (words l.view) (list_in l.matrix l.c)));
+      ≡ joined (items_of l.initial.self) (negations (words l.view) (codes_left l.clause)));
 }
