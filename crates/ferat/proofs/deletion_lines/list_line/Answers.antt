@@ -1,5 +1,5 @@
 use native.Mathlib.Omega.{arith}
-use mathlib.Core.Path.{refl, ap, sym, ◌∙◌}
+use mathlib.Core.Path.{ap, sym, ◌∙◌}
 use Rattle.lines.specs.Scan.{literal_at}
 use Rattle.lines.specs.Literals.{literals_line, literals_at}
 use Rattle.lists.specs.Lists.{is_list}
