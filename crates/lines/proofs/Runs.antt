@@ -1,12 +1,12 @@
 -- Laws of runs: lines and words. Assumes nothing.
 use mathlib.Core.Path.{◌≡◌, refl, ap, ap₂, sym, ◌∙◌}
-use mathlib.Core.Bool.{Bool, true, false, not, cond, ◌||◌, true≢false}
+use mathlib.Core.Bool.{Bool, true, false, not, cond, ◌&&◌, ◌||◌, true≢false}
 use mathlib.Core.List.{List, [], ◌∷◌, ◌++◌}
 use mathlib.Core.Logic.{◌⊎◌, inl, inr}
 use lib.Dec.{eqb, leb}
 use borrow.Author.Tests.{eqb-false, leb-true, leb-false}
 use Rattle.lines.specs.declared.Class.TheVariants.{LineEnd}
-use Rattle.lines.proofs.Classes.{held_not}
+use Rattle.lines.proofs.Classes.{held_not, and_true}
 use Prim.Native.Nat.{ℕ, zero, suc, ◌+◌, ◌-◌, ◌<◌, ◌≤◌, max}
 use native.Mathlib.Omega.{arith}
 use lib.ListN.{length, take, drop, get_or, length-drop, length-append}
@@ -17,6 +17,7 @@ use Rattle.lines.specs.Bytes.{is_line_end, is_blank}
 use Rattle.lines.specs.Lines.{split, longer, lines_of, words_of}
 use Rattle.lines.specs.declared.Run.TheVariants.{Line, Word}
 use Rattle.lines.specs.Scan.{passes, run}
+use Rattle.std.specs.Prelude.{fold}
 use Rattle.std.proofs.lemmas.List.{take_rest}
 use Rattle.lines.proofs.Here.{here, past}
 
@@ -97,6 +98,23 @@ module _ (bs : List ℕ) (at : ℕ) {e : ℕ} (h : e ≡ at + run (passes Line) 
   line_within l = omega (arith, run_le (passes Line) (drop at bs), length-drop at bs)
 
 -- BLOCKS OF BYTES
+-- a test of each byte says that the run is over all of them
+pub run_all : (p : ℕ → Bool) (bs : List ℕ) (t : Bool) → fold (λ a b. a && p b) t bs ≡ true → (t ≡ true) × (run p bs ≡ length bs)
+unfolding run
+run_all p [] t e = (e, refl)
+run_all p (b ∷ bs) t e =
+    let h = run_all p bs (t && p b) e in
+    let k = and_true t (p b) h.0 in
+    (k.0, ap (λ q. cond q (suc (run p bs)) 0) k.1 ∙ ap suc h.1)
+
+pub run_none : (p : ℕ → Bool) (bs : List ℕ) (t : Bool) → fold (λ a b. a || p b) t bs ≡ false → (t ≡ false) × (run (λ b. not (p b)) bs ≡ length bs)
+unfolding run
+run_none p [] t e = (e, refl)
+run_none p (b ∷ bs) t e =
+    let h = run_none p bs (t || p b) e in
+    let k = or_false t (p b) h.0 in
+    (k.0, ap (λ q. cond (not q) (suc (run (λ b. not (p b)) bs)) 0) k.1 ∙ ap suc h.1)
+
 module _ (p : ℕ → Bool) where
   -- the run goes on over n bytes from i on
   abbrev pub Over : List ℕ → ℕ → ℕ → Type 0
@@ -118,13 +136,6 @@ module _ (p : ℕ → Bool) where
       go : (t : Bool) → suc j ≤ cond t (suc (run p bs)) 0 → (j ≤ run p bs → run p (drop j bs) ≡ run p bs - j) → run p (drop j bs) ≡ cond t (suc (run p bs)) 0 - suc j
       go true l r = r (omega arith) ∙ omega arith
       go false l r = absurd (omega arith)
-
-  -- a run over all of a list
-  pub over_all : (bs : List ℕ) → Over bs 0 (length bs) → run p bs ≡ length bs
-  over_all bs o = let z = run_past p bs (0 + length bs) (omega arith) in omega arith
-
-  pub over_front : (bs : List ℕ) (n : ℕ) → Over bs 0 n → n < length bs → p (get_or bs n 0) ≡ true → Over bs 0 (n + 1)
-  over_front bs n o h e = let z : 0 + n ≡ n = omega arith in over_byte bs 0 n o (omega arith) (ap (λ m. p (get_or bs m 0)) z ∙ e)
 
   run_append : (xs ys : List ℕ) → run p xs ≡ length xs → run p (xs ++ ys) ≡ length xs + run p ys
   unfolding run

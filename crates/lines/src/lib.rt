@@ -105,11 +105,7 @@ pub fn past(s: &[u8], at: usize, k: Run) -> usize
 fn all_blank(block: &[u8]) -> bool
     ensures { result ≡ true → run (passes Blanks) block.now ≡ length block.now }
 {
-    let mut all = true;
-    for b in block {
-        all = all & is_blank(*b);
-    }
-    all
+    block.iter().fold(true, |all, b| all & is_blank(*b))
 }
 
 // A place up to which there are blanks for sure, eight at a time.
@@ -157,11 +153,7 @@ fn past_blanks(s: &[u8], at: usize) -> usize
 fn ends_within(block: &[u8]) -> bool
     ensures { result ≡ false → run (passes Line) block.now ≡ length block.now }
 {
-    let mut found = false;
-    for b in block {
-        found = found | is_line_end(*b);
-    }
-    found
+    block.iter().fold(false, |found, b| found | is_line_end(*b))
 }
 
 fn unless_end(n: usize, b: u8) -> usize
