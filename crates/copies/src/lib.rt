@@ -10,7 +10,7 @@ ghost use Rattle.prefix.specs.Prefix.{entry};
 ghost use Rattle.copies.specs.Copies.{annotation_at, image_of, images_of, stands_in, line_in};
 
 use cells::Codes;
-use tables::LentTables;
+use tables::ReadTables;
 
 // A line's copies as the tables show them: the prefix, the values of the copies and the map, and the line's codes, which stand in `proof`
 // from place `line` on, up to a 0. How many literals the line has, `size`, decides the way of a test and not its answer.
@@ -26,11 +26,11 @@ pub struct View<'a> {
 
 impl<'a> View<'a> {
     // Of the line of `size` literals whose codes stand from place `line` on.
-    pub fn of(tables: &'a LentTables, line: usize, size: usize) -> View<'a>
-        ensures prefix { result.prefix.now ≡ tables.now.prefix.now }
-        ensures values { result.values.now ≡ tables.now.values.now }
-        ensures map { result.map.now ≡ tables.now.map.now }
-        ensures proof { result.proof.now ≡ tables.now.proof.now }
+    pub fn of(tables: ReadTables<'a>, line: usize, size: usize) -> View<'a>
+        ensures prefix { result.prefix.now ≡ tables.entry.prefix.now }
+        ensures values { result.values.now ≡ tables.entry.values.now }
+        ensures map { result.map.now ≡ tables.entry.map.now }
+        ensures proof { result.proof.now ≡ tables.entry.proof.now }
         ensures line { result.line ≡ line }
         ensures size { result.size ≡ size }
     {
