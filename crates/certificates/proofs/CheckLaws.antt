@@ -19,7 +19,8 @@ use Rattle.rules.specs.Limits.{Limits, limits}
 use Rattle.rules.specs.Step as rules
 use Rattle.rules.specs.Step.{refuse_in, go_on, judge_lines, judge_file}
 use Rattle.rules.specs.FormulaLines.{read_formula}
-use Rattle.rules.specs.Verdict.{Checked, Ranged, early, of_lines, of_formula}
+use Rattle.rules.specs.Verdict.{Checked, early, of_lines, of_formula}
+use Rattle.rules.specs.declared.Verdict.{Verdict}
 use Rattle.rules.specs.declared.Verdict.TheVariants.{Accepted, Refused}
 use Rattle.rules.specs.declared.Report.{Report}
 use Rattle.formula.specs.declared.Reading.{Reading}
@@ -33,7 +34,7 @@ use Rattle.reading.specs.Ends.{report_of, refused_early, EndedWith, EndedAs}
 use Rattle.reading.specs.Lines.{Rules, read_by, Code, FormulaChecked}
 use Rattle.reading.proofs.StageLaws.{below_then, Keeps}
 use Rattle.reading.proofs.GoingLaws.{Apt}
-use Rattle.certificates.specs.Check.{BothFiles, InRange}
+use Rattle.certificates.specs.Check.{BothFiles}
 
 -- WHAT THE CERTIFICATE NEEDS is at least what the formula needs
 module _ {S P W : Type 0} (R : Rules S) (C : Code S P W) (apt : Apt R C) (l : Limits) (f : Formula) where
@@ -77,45 +78,50 @@ module _ {S : Type 0} (R : Rules S) (t u w : Tables) (f : Formula) (k : KeptAll 
       → Reported (of_lines R.part x) (report_of e)
   reported x e h b = reported_with x e.outcome e.counts h b
 
--- THE CHECK OF BOTH FILES, by a kind's own rules over both
-module _ {S P W : Type 0} {R : Rules S} {C : Code S P W} (apt : Apt R C) {checked : Limits → List ℕ → List ℕ → Checked} (Number : ℕ → Type 0) where
-  module _ (same : BothFiles R checked) (ranged : InRange checked Number) (bs cs : List ℕ) (t : Tables) where
-    abbrev L : Limits
-    L = limits (lengths_of t)
+-- THE CHECK OF BOTH FILES, by a kind's own rules over both, for any range of its verdicts
+module _ {S P W : Type 0} {R : Rules S} {C : Code S P W} (apt : Apt R C) {checked : Limits → List ℕ → List ℕ → Checked} (same : BothFiles R checked)
+    (Range : Verdict → Type 0) (bs cs : List ℕ) (t : Tables) where
+  abbrev L : Limits
+  L = limits (lengths_of t)
 
-    -- the certificate of a formula, by the rules of the kind
-    abbrev lines : Formula → Checked
-    lines f = of_lines R.part (read_by R L f cs)
+  -- the certificate of a formula, by the rules of the kind
+  abbrev pub lines : Limits → Formula → Checked
+  lines l f = of_lines R.part (read_by R l f cs)
 
-    -- the lines of both files
-    abbrev inner : Checked
-    inner = of_formula (read_formula L bs) lines
+  -- the lines of both files
+  abbrev inner : Checked
+  inner = of_formula (read_formula L bs) (lines L)
 
-    abbrev outer : Bool → Bool → Checked
-    outer a b = cond a (cond b inner (early (Refused 1 2 0) (places 0 0 0 0 0 0))) (early (Refused 1 1 0) (places 0 0 0 0 0 0))
+  abbrev outer : Bool → Bool → Checked
+  outer a b = cond a (cond b inner (early (Refused 1 2 0) (places 0 0 0 0 0 0))) (early (Refused 1 1 0) (places 0 0 0 0 0 0))
 
-    abbrev Promised : Report → Tables → Type 0
-    Promised r u = CheckedBy (λ l. checked l bs cs) (Ranged Number bs cs) t r u
+  abbrev Promised : Report → Tables → Type 0
+  Promised r u = CheckedBy (λ l. checked l bs cs) Range t r u
 
-    told : (r : Report) (u : Tables) (a b : Bool) → leb (length bs) 1048576 ≡ a → leb (length cs) 1048576 ≡ b
-        → r ≡ (outer a b).report → KeptAll (outer a b).needs t u → Promised r u
-    told r u a b p q h k =
-        let e : outer a b ≡ checked L bs cs
-        = sym (ap (λ z. outer z b) p) ∙ sym (ap (outer (leb (length bs) 1048576)) q) ∙ sym (same L bs cs) in
-        let f : r ≡ (checked L bs cs).report = h ∙ ap (λ (c : Checked). c.report) e in
-        record {
-          report = f;
-          ranged = subst (λ (z : Report). Ranged Number bs cs z.verdict) (sym f) (ranged L bs cs);
-          kept = subst (λ (c : Checked). KeptAll c.needs t u) e k;
-        }
+  -- every verdict on the files is within the range
+  abbrev pub Within : Type 0
+  Within = (l : Limits) → Range (checked l bs cs).report.verdict
 
+  told : Within → (r : Report) (u : Tables) (a b : Bool) → leb (length bs) 1048576 ≡ a → leb (length cs) 1048576 ≡ b
+      → r ≡ (outer a b).report → KeptAll (outer a b).needs t u → Promised r u
+  told within r u a b p q h k =
+      let e : outer a b ≡ checked L bs cs
+      = sym (ap (λ z. outer z b) p) ∙ sym (ap (outer (leb (length bs) 1048576)) q) ∙ sym (same L bs cs) in
+      let f : r ≡ (checked L bs cs).report = h ∙ ap (λ (c : Checked). c.report) e in
+      record {
+        report = f;
+        ranged = subst (λ (z : Report). Range z.verdict) (sym f) (within L);
+        kept = subst (λ (c : Checked). KeptAll c.needs t u) e k;
+      }
+
+  module _ (within : Within) where
     -- "1 overlong", of the formula and of the certificate
     pub overlong_formula : 1048576 < length bs → (r : Report) → r ≡ refused_early (of_file Overlong) 1 → Promised r t
-    overlong_formula h r e = told r t false (leb (length cs) 1048576) (lt-leb (length bs) 1048576 h) refl e (all_self _ t)
+    overlong_formula h r e = told within r t false (leb (length cs) 1048576) (lt-leb (length bs) 1048576 h) refl e (all_self _ t)
 
     module _ (a : length bs ≤ 1048576) where
       pub overlong_certificate : 1048576 < length cs → (r : Report) → r ≡ refused_early (of_file Overlong) 2 → Promised r t
-      overlong_certificate h r e = told r t true false (le-leb (length bs) 1048576 a) (lt-leb (length cs) 1048576 h) e (all_self _ t)
+      overlong_certificate h r e = told within r t true false (le-leb (length bs) 1048576 a) (lt-leb (length cs) 1048576 h) e (all_self _ t)
 
       module _ (b : length cs ≤ 1048576) (p m : List ℤ) {y : Answer} (h : Answered bs t.prefix t.matrix y p m) where
         answers : Answers (read_formula L bs) t.prefix t.matrix y p m
@@ -132,7 +138,7 @@ module _ {S P W : Type 0} {R : Rules S} {C : Code S P W} (apt : Apt R C) {checke
         kept n x z = let s = all_self n t in record { prefix = x; matrix = z; map = s.map; proof = s.proof; marks = s.marks; values = s.values }
 
         both_read : (r : Report) (u : Tables) → r ≡ inner.report → KeptAll inner.needs t u → Promised r u
-        both_read r u i k = told r u true true (le-leb (length bs) 1048576 a) (le-leb (length cs) 1048576 b) i k
+        both_read r u i k = told within r u true true (le-leb (length bs) 1048576 a) (le-leb (length cs) 1048576 b) i k
 
         pub formula_refused : (refusal : Refusal) → y ≡ Err refusal → (r : Report) → r ≡ refused_early refusal 1 → Promised r read
         formula_refused refusal e r i =
@@ -140,7 +146,7 @@ module _ {S P W : Type 0} {R : Rules S} {C : Code S P W} (apt : Apt R C) {checke
             both_read r read (i ∙ o.0) o.1
           where
             go : (x : rules.Read (Option Formula)) → Answers x t.prefix t.matrix (Err refusal) p m
-                → (refused_early refusal 1 ≡ (of_formula x lines).report) × KeptAll (of_formula x lines).needs t read
+                → (refused_early refusal 1 ≡ (of_formula x (lines L)).report) × KeptAll (of_formula x (lines L)).needs t read
             go (rules.ended none) o = ((λ j. record { verdict = Refused (o.answer.0 j) 1 (o.answer.1 j); expansions = 0; additions = 0; deletions = 0 }), kept (places 0 0 0 0 0 0) o.prefix o.matrix)
             go (rules.ended (some f)) o = absurd o.answer
             go (rules.refused_at n i s) o = ((λ j. record { verdict = Refused (o.answer.0 j) 1 (o.answer.1 j); expansions = 0; additions = 0; deletions = 0 }), kept (formula_needs_so_far s) o.prefix o.matrix)
@@ -155,7 +161,7 @@ module _ {S P W : Type 0} {R : Rules S} {C : Code S P W} (apt : Apt R C) {checke
               both_read q w (i ∙ o.0) o.1
             where
               go : (z : rules.Read (Option Formula)) → Answers z t.prefix t.matrix (Ok r) p m
-                  → (report_of x ≡ (of_formula z lines).report) × KeptAll (of_formula z lines).needs t w
+                  → (report_of x ≡ (of_formula z (lines L)).report) × KeptAll (of_formula z (lines L)).needs t w
               go (rules.ended none) o = absurd o.answer
               go (rules.ended (some f)) o =
                   let k = kept (formula_needs f) o.prefix o.matrix in
