@@ -1,8 +1,8 @@
 -- The certificate of a formula that was read, with the working memory of one check. Assumes nothing.
 use mathlib.Core.Path.{◌≡◌, subst}
 use mathlib.Core.List.{List}
-use Prim.Native.Nat.{ℕ, ◌≤◌}
-use lib.ListN.{length, replicate}
+use Prim.Native.Nat.{ℕ}
+use lib.ListN.{replicate}
 use Rattle.formula.specs.declared.Reading.{Reading}
 use Rattle.tables.specs.Tables.{Tables}
 use Rattle.matrix.specs.Index.{index_of}
@@ -16,6 +16,6 @@ use Rattle.ferat.proofs.StartLaws.{shown_start, light_start}
 
 pub formula_checked : (r : Reading) (p : Progress) → p ≡ begun r → (cs : List ℕ) (t : Tables) (w : Work) → w.starts ≡ index_of t.matrix r.used (replicate 8193 0)
     → w.noted ≡ replicate 16385 0 → ReadyIn w.propagation.trail → w.propagation.trail.length ≡ 0
-    → (x : Ended) (u : Tables) → (length cs ≤ 1048576 → CertificateRead cs p t w x u) → length cs ≤ 1048576 → FormulaChecked cs r t x u
-formula_checked r p e cs t w i j ready none x u h z f a b =
-    subst (λ q. CertificateRead cs q t w x u) e (h z) f (shown_start r t f a b i j ready none) (light_start r)
+    → (x : Ended) (u : Tables) → CertificateRead cs p t w x u → FormulaChecked cs r t x u
+formula_checked r p e cs t w i j ready none x u h f a b =
+    subst (λ q. CertificateRead cs q t w x u) e h f (shown_start r t f a b i j ready none) (light_start r)
