@@ -9,7 +9,7 @@ ghost use Rattle.ferat.specs.Lines.{Line, with_three};
 
 use progress::{Progress, Work, limit_broken};
 use rules::Rule;
-use tables::LentTables;
+use tables::{LentTables, ReadTables};
 
 // `e` literals `0`, from the place after the letter on.
 pub fn expansion_line(
@@ -38,7 +38,23 @@ pub fn expansion_line(
         tables.values.len(),
     )?;
     p.store.store_line(line, at, tables.proof)?;
-    steps::expand(p, measure, tables, work)
+    let read = ReadTables {
+        prefix: &mut *tables.prefix,
+        matrix: &mut *tables.matrix,
+        map: &mut *tables.map,
+        proof: &mut *tables.proof,
+        values: &mut *tables.values,
+    };
+    let marks = &mut *tables.marks;
+    steps::expand(
+        p,
+        measure,
+        read,
+        marks,
+        &work.starts,
+        &work.noted,
+        &mut work.propagation,
+    )
 }
 
 // Literals and `0`.
@@ -49,7 +65,8 @@ pub fn addition_line(
     work: &mut Work,
 ) -> Result<Progress, Rule>
     ensures read { (t : Tables) (w : Work) → Line (clause_form addition) line.now 0 p
-        (with_three t (tables_of tables.old)) (beside w work.old) result (with_three t (tables_of tables.new)) (beside w work.new) }
+        (with_three t (tables_of tables.old)) (beside w work.old.propagation) result
+        (with_three t (tables_of tables.new)) (beside w work.new.propagation) }
     ensures rest { tables_of tables.new ≡ record (tables_of tables.old)
         { proof = (tables_of tables.new).proof; marks = (tables_of tables.new).marks } }
     ensures work { work.new ≡ record work.old { propagation = work.new.propagation } }
@@ -64,5 +81,7 @@ pub fn addition_line(
         tables.values.len(),
     )?;
     p.store.store_line(line, 0, tables.proof)?;
-    steps::add(p, measure, tables, work)
+    let proof = &mut *tables.proof;
+    let marks = &mut *tables.marks;
+    steps::add(p, measure, proof, marks, &mut work.propagation)
 }

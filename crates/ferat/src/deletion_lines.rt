@@ -39,7 +39,8 @@ pub fn deletion_line(
     work: &mut Work,
 ) -> Result<Progress, Rule>
     ensures read { (t : Tables) (w : Work) → Line (clause_form deletion) line.now at p
-        (among t (tables_of tables.old)) (beside w work.old) result (among t (tables_of tables.new)) (beside w work.new) }
+        (among t tables.old.proof.now tables.old.marks.now) (beside w work.old.propagation) result
+        (among t tables.new.proof.now tables.new.marks.now) (beside w work.new.propagation) }
     ensures marks { tables_of tables.new ≡ record (tables_of tables.old) { marks = (tables_of tables.new).marks } }
     ensures trail { work.new ≡ record work.old {
       propagation = record work.old.propagation
@@ -53,5 +54,7 @@ pub fn deletion_line(
     }
     work.propagation.trail.undo(0);
     list_line(line, at, &mut work.propagation.trail)?;
-    steps::delete(p, tables, work)
+    let proof = &mut *tables.proof;
+    let marks = &mut *tables.marks;
+    steps::delete(p, proof, marks, &mut work.propagation.trail)
 }

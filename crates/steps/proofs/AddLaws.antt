@@ -30,10 +30,10 @@ use Rattle.std.specs.Prelude.{Ok, Err}
 use Rattle.progress.specs.Order.{hint_left}
 use Rattle.progress.specs.declared.Work.{Work}
 use Rattle.progress.specs.Shown.{clauses_of, Shown, Light, Stepped}
-use Rattle.steps.specs.Judges.{kind_judge, Pending, Judges, Rest}
+use Rattle.steps.specs.Judges.{kind_judge, Pending, Judges}
 use Rattle.reading.specs.Counting.{one_addition}
 use Rattle.steps.specs.Stands.{Standable, Stands}
-use Rattle.steps.proofs.JudgeLaws.{judge_kind, judge_next, refused_in, accepted_in, judged_as}
+use Rattle.steps.proofs.JudgeLaws.{judge_kind, judge_next, refused_in, accepted_in}
 use Rattle.progress.proofs.OrderLaws.{hint_left_lem}
 use Rattle.steps.proofs.StandLaws.{additions_add, clause_needs_lem, more_is, small_then, stood_kept, stood_shown, stood_weight}
 
@@ -71,14 +71,14 @@ module _ (p : Progress) (n m : ℕ) (t : Tables) (w : Work) where
   }
 
   module _ (h : hint_left p ≡ false) (propagation : Propagation) (r : Option ℕ) {a b : List ℤ} {count : ℕ} (x : a ≡ t.proof) (z : b ≡ t.marks)
-      (d : count ≡ places_of p.store) {codes : List ℕ} (y : codes ≡ pending a p.store)
+      (d : count ≡ places_of p.store) {codes : List ℕ} (y : codes ≡ pending t.proof p.store)
       (answered : HeldIn (standing a b count) w.propagation.trail
       → DecidedIn (standing a b count) codes propagation.trail r) where
     decided : HeldIn (clauses_of p t) w.propagation.trail → DecidedIn (clauses_of p t) (pending t.proof p.store) propagation.trail r
     decided g =
         let e : standing a b count ≡ clauses_of p t = ap₂ (λ a b. standing a b count) x z ∙ ap (standing t.proof t.marks) d in
         subst (λ S. DecidedIn S (pending t.proof p.store) propagation.trail r) e
-        (subst (λ c. DecidedIn (standing a b count) c propagation.trail r) (y ∙ ap (λ (a : List ℤ). pending a p.store) x)
+        (subst (λ c. DecidedIn (standing a b count) c propagation.trail r) y
         (answered (subst (λ S. HeldIn S w.propagation.trail) (sym e) g)))
 
     -- "not implied"
@@ -91,10 +91,15 @@ module _ (p : Progress) (n m : ℕ) (t : Tables) (w : Work) where
     }
 
     -- it stands
-    module _ {followed : ℕ} (e : r ≡ Some followed) {counts : Counts} (g : counts ≡ one_addition p.counts) {u : Tables} {v : Work} {q : Progress}
-        (rest : Rest t (record w { propagation = propagation }) u v)
+    module _ {followed : ℕ} (e : r ≡ Some followed) {counts : Counts} (g : counts ≡ one_addition p.counts) {marks : List ℤ} {after : Propagation} {q : Progress}
         (stands : Standable p n t (record w { propagation = propagation })
-        → Stands p counts n m t q u v) where
+        → Stands p counts n m t q (record t { marks = marks }) (record w { propagation = after })) where
+      abbrev u : Tables
+      u = record t { marks = marks }
+
+      abbrev v : Work
+      v = record w { propagation = after }
+
       module _ (c : Lits) (k : ℕ) (f : Formula) (s : State) (o : Pending p t n m c) (sh : Shown p t w f s) (l : Light p k) (i : n < k) where
         answer : HeldIn (clauses_of p t) propagation.trail × (accepts (clauses_of p t) (pending t.proof p.store) ≡ true)
         answer = decided_yes (clauses_of p t) (pending t.proof p.store) propagation.trail r (decided sh.held) e
@@ -111,21 +116,21 @@ module _ (p : Progress) (n m : ℕ) (t : Tables) (w : Work) where
         one : counts.additions ≡ s.additions + 1
         one = ap (λ (x : Counts). x.additions) g ∙ more_is (omega (arith, l)) ∙ ap (λ x. x + 1) sh.additions
 
-        next_state : Stepped f p k t (kind_judge f s (addition c)) (Ok q) (record t { marks = u.marks }) (record w { propagation = v.propagation })
+        next_state : Stepped f p k t (kind_judge f s (addition c)) (Ok q) u v
         unfolding accept
         next_state =
             accepted_in f p k t _ _ (judge_next (limits (lengths_of t)) f s (addition c) (kinds sh o true h answer.1)) (
-              subst (λ x. Shown q (record t { marks = u.marks }) (record w { propagation = v.propagation }) f
+              subst (λ x. Shown q u v f
                   (state s.mapped s.hinted (s.standing ++ (c ∷ [])) s.expansions (s.additions + 1) s.deletions x))
                   (sym (clause_needs_lem sh additions_add c o.count o.most))
-                  (stood_shown sh o counts stood.next stood.stood v.propagation stood.held s.expansions (s.additions + 1) s.deletions
+                  (stood_shown sh o counts stood.next stood.stood after stood.held s.expansions (s.additions + 1) s.deletions
                   (ap (λ (x : Counts). x.expansions) g ∙ sh.expansions) one (ap (λ (x : Counts). x.deletions) g ∙ sh.deletions)
                   (λ a. omega (arith, a, one))),
-              subst (λ x. KeptAll x t (record t { marks = u.marks })) (sym (clause_needs_lem sh additions_add c o.count o.most))
+              subst (λ x. KeptAll x t u) (sym (clause_needs_lem sh additions_add c o.count o.most))
                   (stood_kept sh o counts stood.next stood.stood),
               stood_weight sh o counts stood.next stood.stood i
                   (omega (arith, one, sh.additions, ap (λ (x : Counts). x.expansions) g, ap (λ (x : Counts). x.deletions) g)),
             )
 
       pub add_next : Judges addition p n m t w (Ok q) u v
-      add_next = judged_as rest record { steps = next_state }
+      add_next = record { steps = next_state }

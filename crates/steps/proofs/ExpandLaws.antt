@@ -7,6 +7,7 @@ use Prim.Native.Nat.{ℕ, ◌+◌, ◌-◌, ◌/◌, ◌<◌, ◌≤◌}
 use native.Mathlib.Omega.{arith}
 use lib.Dec.{eqb, leb, ltb}
 use lib.ListN.{length, get_or, length-map}
+use lib.IntN.{ℤ}
 use borrow.Author.Tests.{leb-true, ltb-true, ne_eqb}
 use Rattle.std.specs.List.{list_all as all, list_any as any}
 use Rattle.cells.specs.Cells.{list_at, code_at}
@@ -32,6 +33,7 @@ use Rattle.expansion.specs.Codes.{expands_named, expands_any}
 use Rattle.expansion.proofs.ClauseLaws.{CopiesTold, named_tested, any_tested}
 use Rattle.clauses.specs.Standing.{pending, written_at, proof_need}
 use Rattle.clauses.proofs.LiteralLaws.{written_there}
+use Rattle.propagation.specs.declared.Propagation.{Propagation}
 use Rattle.reading.specs.declared.Counts.{Counts}
 use Rattle.progress.specs.declared.Progress.{Progress}
 use Rattle.std.specs.Prelude.{Result, Ok, Err}
@@ -41,11 +43,11 @@ use Rattle.rules.specs.declared.Rule.{Rule}
 use Rattle.rules.proofs.RuleLaws.{number_not_zero}
 use Rattle.progress.specs.declared.Work.{Work}
 use Rattle.progress.specs.Shown.{HintsShown, Shown, Light, Stepped}
-use Rattle.steps.specs.Judges.{kind_judge, Pending, among, beside, Judges, Rest}
+use Rattle.steps.specs.Judges.{kind_judge, Pending, Judges}
 use Rattle.reading.specs.Counting.{one_expansion}
 use Rattle.steps.specs.Stands.{Standable, Stands}
 use Rattle.steps.specs.Expands.{hint_at, fits_at, rule_broken}
-use Rattle.steps.proofs.JudgeLaws.{judge_kind, judge_next, refused_in, accepted_in, judged_as}
+use Rattle.steps.proofs.JudgeLaws.{judge_kind, judge_next, refused_in, accepted_in}
 use Rattle.progress.proofs.OrderLaws.{hint_missing_lem}
 use Rattle.steps.proofs.StandLaws.{expansions_add, clause_needs_lem, more_is, small_then, stood_kept, stood_shown, stood_weight}
 use Rattle.progress.proofs.HintLaws.{hint_read}
@@ -139,10 +141,16 @@ module _ (p : Progress) (n m : ℕ) (t : Tables) (w : Work) {a : Result (Unit {0
   }
 
   -- it stands
-  module _ {x : Unit {0}} (z : a ≡ Ok x) {counts : Counts} (g : counts ≡ one_expansion p.counts) {u : Tables} {v : Work} {r : Progress} (rest : Rest t w u v)
-      (stands : Standable p n t w → Stands p counts n m t r (among t u) (beside w v)) where
+  module _ {x : Unit {0}} (z : a ≡ Ok x) {counts : Counts} (g : counts ≡ one_expansion p.counts) {marks : List ℤ} {propagation : Propagation} {r : Progress}
+      (stands : Standable p n t w → Stands p counts n m t r (record t { marks = marks }) (record w { propagation = propagation })) where
+    abbrev u : Tables
+    u = record t { marks = marks }
+
+    abbrev v : Work
+    v = record w { propagation = propagation }
+
     module _ (c : Lits) (j : ℕ) (f : Formula) (s : State) (o : Pending p t n m c) (sh : Shown p t w f s) (l : Light p j) (i : n < j) where
-      stood : Stands p counts n m t r (among t u) (beside w v)
+      stood : Stands p counts n m t r u v
       stood = stands record {
         filled = sh.filled;
         count = o.count ∙ sym (length-map c code_of) ∙ ap length (sym o.stored);
@@ -154,21 +162,21 @@ module _ (p : Progress) (n m : ℕ) (t : Tables) (w : Work) {a : Result (Unit {0
       one : counts.expansions ≡ s.expansions + 1
       one = ap (λ (x : Counts). x.expansions) g ∙ more_is (omega (arith, l)) ∙ ap (λ x. x + 1) sh.expansions
 
-      next_state : Stepped f p j t (kind_judge f s (expansion c)) (Ok r) (record t { marks = u.marks }) (record w { propagation = v.propagation })
+      next_state : Stepped f p j t (kind_judge f s (expansion c)) (Ok r) u v
       unfolding accept
       next_state =
           accepted_in f p j t _ _ (judge_next (limits (lengths_of t)) f s (expansion c) (kinds sh o q ∙ ap (λ a. refusal (broken a)) z)) (
-            subst (λ x. Shown r (record t { marks = u.marks }) (record w { propagation = v.propagation }) f
+            subst (λ x. Shown r u v f
                 (state s.mapped s.hinted (s.standing ++ (c ∷ [])) (s.expansions + 1) s.additions s.deletions x))
                 (sym (clause_needs_lem sh expansions_add c o.count o.most))
-                (stood_shown sh o counts stood.next stood.stood v.propagation stood.held (s.expansions + 1) s.additions s.deletions
+                (stood_shown sh o counts stood.next stood.stood propagation stood.held (s.expansions + 1) s.additions s.deletions
                 one (ap (λ (x : Counts). x.additions) g ∙ sh.additions) (ap (λ (x : Counts). x.deletions) g ∙ sh.deletions)
                 (λ y. omega (arith, y, one))),
-            subst (λ x. KeptAll x t (record t { marks = u.marks })) (sym (clause_needs_lem sh expansions_add c o.count o.most))
+            subst (λ x. KeptAll x t u) (sym (clause_needs_lem sh expansions_add c o.count o.most))
                 (stood_kept sh o counts stood.next stood.stood),
             stood_weight sh o counts stood.next stood.stood i
                 (omega (arith, one, sh.expansions, ap (λ (x : Counts). x.additions) g, ap (λ (x : Counts). x.deletions) g)),
           )
 
     pub expand_next : Judges expansion p n m t w (Ok r) u v
-    expand_next = judged_as rest record { steps = next_state }
+    expand_next = record { steps = next_state }

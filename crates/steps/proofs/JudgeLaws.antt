@@ -4,7 +4,6 @@ use mathlib.Core.Bool.{true, false}
 use mathlib.Core.Option.{none, some}
 use Prim.Native.Nat.{ℕ}
 use Rattle.rules.specs.Formula.{Formula}
-use Rattle.rules.specs.Literals.{Lits}
 use Rattle.rules.specs.Forms.{CertificateLine}
 use Rattle.rules.specs.Limits.{Limits, has_room}
 use Rattle.rules.specs.Step.{next, refuse, ◌unless◌, ◌then◌, refuse_in}
@@ -14,10 +13,10 @@ use Rattle.rules.specs.declared.Rule.{Rule}
 use Rattle.rules.specs.CertificateLines.{State, needing, in_sequence, in_range, kind_rules, accept, judge}
 use Rattle.tables.specs.Tables.{Tables, KeptAll}
 use Rattle.progress.specs.declared.Progress.{Progress}
-use Rattle.std.specs.Prelude.{Result, Ok, Err}
+use Rattle.std.specs.Prelude.{Ok, Err}
 use Rattle.progress.specs.declared.Work.{Work}
 use Rattle.progress.specs.Shown.{Stepped}
-use Rattle.steps.specs.Judges.{kind_judge, among, Judges, Rest}
+use Rattle.steps.specs.Judges.{kind_judge}
 
 -- THE JUDGE, by the first rule that is broken
 module _ (L : Limits) (f : Formula) (s : State) (line : CertificateLine) where
@@ -64,14 +63,3 @@ module _ (f : Formula) (p : Progress) (n : ℕ) (t u : Tables) (w : Work) where
 
   pub accepted_in : {x : rules.Step State} {s : State} {q : Progress} → x ≡ next s → Stepped f p n t (next s) (Ok q) u w → Stepped f p n t x (Ok q) u w
   accepted_in {q} e h = subst (λ y. Stepped f p n t y (Ok q) u w) (sym e) h
-
--- among any other tables too
-pub among_kept : (t u v : Tables) → v ≡ record u { marks = v.marks } → among t v ≡ record (among t u) { marks = v.marks }
-among_kept t u v e = ap (λ (x : Tables). record t { proof = x.proof; marks = v.marks }) e
-
--- all but the marks, the trail and the watches stays
-pub judged_as : {kind : Lits → CertificateLine} {p : Progress} {n m : ℕ} {t u : Tables} {w v : Work} {r : Result Progress Rule} → Rest t w u v
-    → Judges kind p n m t w r (record t { marks = u.marks }) (record w { propagation = v.propagation }) → Judges kind p n m t w r u v
-judged_as {kind} {p} {n} {m} {t} {u} {w} {v} {r} e j =
-    subst (λ v. Judges kind p n m t w r u v) (sym e.1)
-    (subst (λ u. Judges kind p n m t w r u (record w { propagation = v.propagation })) (sym e.0) j)

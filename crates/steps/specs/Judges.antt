@@ -1,5 +1,5 @@
 -- Judging what is stored. Assumes nothing.
-use Rattle.std.specs.Prelude.{◌≡◌, map, ℕ, ◌<◌, ◌≤◌, max, length, Result}
+use Rattle.std.specs.Prelude.{◌≡◌, List, map, ℕ, ◌<◌, ◌≤◌, max, length, ℤ, Result}
 use Rattle.rules.specs.Basics.{greatest, is_in}
 use Rattle.rules.specs.Literals.{Lits, vars}
 use Rattle.rules.specs.Codes.{code_of}
@@ -12,6 +12,7 @@ use Rattle.rules.specs.CertificateLines.{State, needing, kind_rules, accept}
 use Rattle.tables.specs.Tables.{Tables}
 use Rattle.clauses.specs.Standing.{pending, grown, proof_need, marks_need}
 use Rattle.trail.specs.declared.Trail.{Trail}
+use Rattle.propagation.specs.declared.Propagation.{Propagation}
 use Rattle.deletion.specs.Deletions.{ListedIn, list_in}
 use Rattle.progress.specs.declared.Progress.{Progress}
 use Rattle.progress.specs.declared.Work.{Work}
@@ -36,17 +37,21 @@ pub record Judges (kind : Lits → CertificateLine) (p : Progress) (n m : ℕ) (
   pub steps : (c : Lits) (k : ℕ) (f : Formula) (s : State) → Pending p t n m c → Shown p t w f s → Light p k → n < k
       → Stepped f p k t (kind_judge f s (kind c)) r u v
 
--- the tables t with another's proof and marks tables, and the working memory w with another's trail and watches: all that an addition
--- and a deletion depend on
-abbrev pub among : Tables → Tables → Tables
-among t u = record t { proof = u.proof; marks = u.marks }
+-- the proof and marks tables as a call has them, among any others
+abbrev pub among : Tables → List ℤ → List ℤ → Tables
+among t proof marks = record t { proof = proof; marks = marks }
 
-abbrev pub beside : Work → Work → Work
-beside w v = record w { propagation = v.propagation }
+-- the trail and the watches as a call has them, beside any other working memory
+abbrev pub beside : Work → Propagation → Work
+beside w propagation = record w { propagation = propagation }
 
--- ALL BUT THE MARKS stays in the tables, and all but the trail and the watches in the working memory
-abbrev pub Rest : Tables → Work → Tables → Work → Type 0
-Rest t w u v = (u ≡ record t { marks = u.marks }) × (v ≡ record w { propagation = v.propagation })
+-- the trail alone
+abbrev pub with_trail : Work → Trail → Work
+with_trail w trail = beside w (record w.propagation { trail = trail })
+
+-- the whole working memory, by its parts
+abbrev pub work_of : List ℕ → List ℕ → Propagation → Work
+work_of starts noted propagation = record { starts = starts; noted = noted; propagation = propagation }
 
 -- THE JUDGE of a deletion, whose distinct literals are on the trail, which was emptied before: c as a set
 pub record Listing (c : Lits) (t : Trail) : Type 0 where

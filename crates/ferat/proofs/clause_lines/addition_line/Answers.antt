@@ -1,10 +1,8 @@
-use Rattle.std.proofs.Common.{◌≡◌, ap, sym, ◌∙◌, Err, rules}
+use Rattle.std.proofs.Common.{◌≡◌, sym, ◌∙◌, Err, rules}
 use Rattle.rules.specs.declared.Rule.TheVariants.{Malformed}
 use Rattle.lists.proofs.FormLaws.{clause_ended}
-use Rattle.tables.specs.Tables.{Tables}
 use Rattle.tables.specs.Lent.{tables_of}
 use Rattle.ferat.specs.Lines.{with_three}
-use Rattle.ferat.proofs.LentLaws.{three_same, line_then}
 use Rattle.ferat.proofs.ClauseLaws.{additions, addition_turn, clause_bad, clause_limited, clause_judged}
 use Rattle.ferat.proofs.clause_lines.addition_line.Goals as goal
 
@@ -25,6 +23,5 @@ returns-in_err-store_line-clause-read c = λ t w.
 
 pub returns-clause-read : goal.returns-clause-read
 returns-clause-read c = λ t w.
-    line_then (three_same t (tables_of c.args.tables.now) (tables_of c.add.new.tables) (ap (λ (x : Tables). x.values) c.add.ensures.rest.0))
-    (clause_judged additions _ _ _ _ _ (sym c.clause_at.ensures ∙ c.in_ok-measure.ensures.ok_part)
-    (λ f s sh. addition_turn s _) c.in_ok-limit_broken.ensures _ c.store_line.ensures.0 (c.add.ensures.answer (with_three t (tables_of c.args.tables.now)) w))
+    clause_judged additions _ _ _ _ _ (sym c.clause_at.ensures ∙ c.in_ok-measure.ensures.ok_part)
+    (λ f s sh. addition_turn s _) c.in_ok-limit_broken.ensures _ c.store_line.ensures.0 (c.add.ensures (with_three t (tables_of c.args.tables.now)) w)

@@ -27,4 +27,4 @@ returns-in_err-store_line-clause-read c =
 pub returns-clause-read : goal.returns-clause-read
 returns-clause-read c =
     clause_judged expansions _ _ _ _ _ (sym c.clause_at.ensures ∙ c.in_ok-measure.ensures.ok_part)
-    (λ f s sh. expansion_turn c.before_additions.ensures _ f s sh ∙ c.if-not-before_additions.false) c.in_ok-limit_broken.ensures _ c.store_line.ensures.0 c.expand.ensures.answer
+    (λ f s sh. expansion_turn c.before_additions.ensures _ f s sh ∙ c.if-not-before_additions.false) c.in_ok-limit_broken.ensures _ c.store_line.ensures.0 c.expand.ensures

@@ -1,6 +1,7 @@
 use Rattle.std.proofs.Common.{◌≡◌, sym, ◌∙◌, Err, rules}
 use Rattle.rules.specs.declared.Rule.TheVariants.{Malformed}
 use Rattle.lists.proofs.FormLaws.{clause_ended}
+use Rattle.steps.specs.Judges.{beside}
 use Rattle.ferat.proofs.DeletionLaws.{deletion_bad, deletion_high, deletion_judged}
 use Rattle.ferat.proofs.deletion_lines.deletion_line.Goals as goal
 
@@ -20,4 +21,4 @@ returns-in_err-list_line-clause-read c = λ t w.
 pub returns-clause-read : goal.returns-clause-read
 returns-clause-read c = λ t w.
     deletion_judged _ _ _ _ _ (sym c.clause_at.ensures ∙ c.in_ok-measure.ensures.ok_part) c.if-measure-gt-COPIES.false c.undo.ensures.undone
-    (λ h e. c.list_line.ensures.listed h e c.in_ok-list_line.was) (c.delete.ensures.answer t w)
+    (λ h e. c.list_line.ensures.listed h e c.in_ok-list_line.was) (c.delete.ensures.answer t (beside w c.args.work.now.propagation))

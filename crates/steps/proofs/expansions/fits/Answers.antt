@@ -6,7 +6,7 @@ use Rattle.steps.proofs.expansions.fits.Goals as goal
 
 pub returns-then-is_some : goal.returns-then-is_some
 unfolding fits_at
-returns-then-is_some c =
+returns-then-is_some c = λ marks.
     let n = c.new-least.ensures in
     let v = c.of-view.ensures in
     let z : IsEmpty c.new-least.result = rw (n.now.0, n.now.1) (zeros_unmarked, zeros_long, n.none) in
@@ -15,7 +15,7 @@ returns-then-is_some c =
 
 pub returns : goal.returns
 unfolding fits_at
-returns c =
+returns c = λ marks.
     let n = c.new-least.ensures in
     let v = c.of-view.ensures in
     let x = (c.expands_any.ensures.answer (rw (n.now.0, n.now.1) (zeros_unmarked, zeros_long, n.none))).0 in
