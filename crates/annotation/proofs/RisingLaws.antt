@@ -12,9 +12,9 @@ use Rattle.rules.proofs.Kit.{and_l, and_r, or_cases, either, by_yes}
 use Rattle.mapped.specs.Numbers.{ruled}
 use Rattle.annotation.specs.Annotation.{once, follows, rising}
 
-follows_yes : (l u : ℕ) → l < u → u ≤ 16384 → follows l u ≡ true
+pub follows_yes : (l u : ℕ) → l < u → leb u 16384 ≡ follows l u
 unfolding follows
-follows_yes l u h k = ap₂ (λ a b. a && b) (lt-ltb l u h) (le-leb u 16384 k)
+follows_yes l u h = sym (ap (λ b. b && leb u 16384) (lt-ltb l u h))
 
 module _ (l u : ℕ) (us : List ℕ) (e : rising l (u ∷ us) ≡ true) where
   first : follows l u ≡ true
@@ -70,6 +70,6 @@ module _ {us₀ : List ℕ} {d₀ l : ℕ} {us : List ℕ} {d : ℕ} (h : Rising
   pub rising_more : {u : ℕ} {rest : List ℕ} → us ≡ u ∷ rest → {c : ℕ} → d ≡ c → l < u → u ≤ 16384 → Rising us₀ d₀ u rest c
   unfolding rising
   rising_more {u} {rest} o i a b = record {
-    rises = ap (λ b. b && rising u rest) (sym (follows_yes l u a b)) ∙ sym (ap (rising l) o) ∙ h.rises;
+    rises = ap (λ b. b && rising u rest) (sym (le-leb u 16384 b) ∙ follows_yes l u a) ∙ sym (ap (rising l) o) ∙ h.rises;
     ends = sym i ∙ h.ends;
   }
