@@ -31,9 +31,9 @@ use Rattle.derivations.specs.declared.Reason.{Reason}
 use Rattle.derivations.specs.declared.Reason.TheVariants.{Clause, Parents}
 use Rattle.derivations.specs.declared.Derivation.{Derivation}
 use Rattle.derivations.specs.declared.Work.{Work}
-use Rattle.derivations.specs.Shown.{Shown, ferp_rules, ferp_code}
+use Rattle.derivations.specs.Shown.{beside, Shown, ferp_rules, ferp_code}
 use Rattle.derivations.specs.Rules.{rule_broken, RuleJudged, line_broken}
-use Rattle.derivations.specs.Judges.{line_of, kind_judge, Named, StandsAs, Judges, OnlyTestedIn}
+use Rattle.derivations.specs.Judges.{line_of, kind_judge, Named, StandsAs, Judges}
 use Rattle.derivations.proofs.RuleLaws.{kinds}
 use Rattle.derivations.proofs.StandLaws.{marked, accepted_as, stood_kept, stood_shown, stood_weight}
 
@@ -73,33 +73,32 @@ module _ (d : Derivation) (p : Progress) (t : Tables) (w : Work) where
     by_used z = ap (λ a. cond a 17 (rule_broken p d.reason t w)) (sym (ap is_some e) ∙ sym g ∙ z)
 
     -- 17
-    pub index_used : b ≡ true → Judges d p t w (Err IndexUsed) t w
-    index_used z = refused IndexUsed (λ f s sh. sym (by_used z)) w
+    pub index_used : b ≡ true → (v : Work) → Judges d p t w (Err IndexUsed) t v
+    index_used z v = refused IndexUsed (λ f s sh. sym (by_used z)) v
 
-    -- v is the working memory after the tests, and r their answer
-    module _ (z : b ≡ false) (r : Result (Unit {0}) Rule) (v : Work) (j : RuleJudged p d.reason t w (broken r) v.seen) where
+    -- seen are the marks after the tests, and r their answer
+    module _ (z : b ≡ false) (r : Result (Unit {0}) Rule) (seen : List ℕ) (j : RuleJudged p d.reason t w (broken r) seen) where
       first : (f : Formula) (s : Derived) → Shown p t w f s → broken r ≡ line_broken p d.index d.reason t w
       first f s sh = (j sh.clear).0 ∙ sym (by_used z)
 
       -- 16, 9 and 11
-      pub rule_refused : {k : Rule} → r ≡ Err k → Judges d p t w (Err k) t v
-      rule_refused {k} y = refused k (λ f s sh. sym (ap broken y) ∙ first f s sh) v
+      pub rule_refused : {k : Rule} → r ≡ Err k → (v : Work) → Judges d p t w (Err k) t v
+      rule_refused {k} y v = refused k (λ f s sh. sym (ap broken y) ∙ first f s sh) v
 
       -- it stands
-      pub line_stands : OnlyTestedIn w v → {a : Unit {0}} → r ≡ Ok a → {marks : List ℤ} {indexes : List ℕ} {q : Progress}
-          → StandsAs p d t.marks v.indexes q marks indexes → Judges d p t w (Ok q) (marked t marks) (record v { indexes = indexes })
-      line_stands same y {marks} {indexes} {q} h = record {
+      pub line_stands : {a : Unit {0}} → r ≡ Ok a → {marks : List ℤ} {indexes : List ℕ} {q : Progress}
+          → StandsAs p d t.marks w.indexes q marks indexes → (v : Work) → Judges d p t w (Ok q) (marked t marks) (beside v w.starts w.noted indexes seen)
+      line_stands y {marks} {indexes} {q} h v = record {
         steps = λ c j f s o i sh l a.
-            let b = subst (λ i. StandsAs p d t.marks i q marks indexes) (ap (λ z. z.indexes) same) h in
-            subst (λ x. Leads ferp_rules ferp_code f p j t x (Ok q) (marked t marks) (record v { indexes = indexes }))
+            subst (λ x. Leads ferp_rules ferp_code f p j t x (Ok q) (marked t marks) (beside v w.starts w.noted indexes seen))
             (sym (judged_next f s d.index d.reason c (broken r) (kinds sh o d.index d.reason i ∙ ap numbered (sym (first f s sh))) (ap broken y) ∙ ap rules.next (accepted_as sh d c o.count o.most))) (
-              stood_shown sh d o l a b (low_index f d.index d.reason i)
+              stood_shown sh d o l a h (low_index f d.index d.reason i)
                   (not_used s.indexes d.index (sym (sh.indexes.each d.index (low_index f d.index d.reason i)) ∙ sym e ∙ no_place x (sym g ∙ z)))
-                  (ap (λ z. z.starts) same) (ap (λ z. z.noted) same) refl (clean sh),
-              stood_kept sh d o l a b,
-              stood_weight sh d o l a b,
+                  refl refl refl (clean sh),
+              stood_kept sh d o l a h,
+              stood_weight sh d o l a h,
             );
       }
         where
-          clean : {f : Formula} {s : Derived} → Shown p t w f s → Clear v.seen
+          clean : {f : Formula} {s : Derived} → Shown p t w f s → Clear seen
           clean sh = (j sh.clear).1

@@ -13,10 +13,10 @@ use Rattle.derivations.specs.declared.Derivation.{Derivation}
 use Rattle.derivations.specs.Limits.{has_places}
 
 -- of two tests the first decides
-first_true : (a : Bool) {b r : Bool} → a ≡ true → r ≡ b → r ≡ a && b
+pub first_true : (a : Bool) {b r : Bool} → a ≡ true → r ≡ b → r ≡ a && b
 first_true a {b} e i = i ∙ sym (ap (λ x. x && b) e)
 
-first_false : (a b : Bool) → a ≡ false → false ≡ a && b
+pub first_false : (a b : Bool) → a ≡ false → false ≡ a && b
 first_false a b e = sym (ap (λ x. x && b) e)
 
 -- WHAT THE CODE TESTS

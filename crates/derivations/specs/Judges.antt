@@ -72,13 +72,3 @@ pub record StandsAs (p : Progress) (d : Derivation) (marks : List ℤ) (indexes 
 pub record Judges (d : Derivation) (p : Progress) (t : Tables) (w : Work) (r : Result Progress Rule) (u : Tables) (v : Work) : Type 0 where
   pub steps : (c : Lits) (k : ℕ) (f : Formula) (s : Derived) → Pending p t d c → Named f d.index d.reason → Shown p t w f s → Light ferp_rules ferp_code p k
       → d.size < k → Leads ferp_rules ferp_code f p k t (kind_judge f s (line_of d.index d.reason c)) r u v
-
--- WHAT STAYS in any case: all of the working memory but the marks and the list of a test; but these and the indexes; and all tables but the marks
-abbrev pub OnlyTestedIn : Work → Work → Type 0
-OnlyTestedIn w v = v ≡ record w { seen = v.seen; held = v.held }
-
-abbrev pub OnlyDerivedIn : Work → Work → Type 0
-OnlyDerivedIn w v = v ≡ record w { indexes = v.indexes; seen = v.seen; held = v.held }
-
-abbrev pub OnlyMarksIn : Tables → Tables → Type 0
-OnlyMarksIn t u = u ≡ record t { marks = u.marks }

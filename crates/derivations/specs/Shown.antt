@@ -17,6 +17,10 @@ use Rattle.reading.specs.Lines.{Rules, Code}
 use Rattle.derivations.specs.declared.Progress.{Progress}
 use Rattle.derivations.specs.declared.Work.{Work}
 
+-- the working memory w with these parts for its own: no other part shows a state, and the judge of a clause line depends on no other
+abbrev pub beside : Work → List ℕ → List ℕ → List ℕ → List ℕ → Work
+beside w starts noted indexes seen = record w { starts = starts; noted = noted; indexes = indexes; seen = seen }
+
 -- the clauses derived
 abbrev pub clauses_of : Progress → Tables → List (List ℕ)
 clauses_of p t = standing t.proof t.marks (places_of p.store)

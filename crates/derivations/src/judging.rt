@@ -1,37 +1,45 @@
 // The judge of a clause line that is stored: rules 17, 16, 9 and 11.
-ghost use Rattle.std.specs.Prelude.{◌≡◌};
+ghost use Rattle.std.specs.Prelude.{◌≡◌, List, ℤ, ◌≤◌, length};
 ghost use Rattle.rules.specs.Rule.{broken};
-ghost use Rattle.tables.specs.Lent.{tables_of, SameLent};
+ghost use Rattle.tables.specs.Lent.{read_of};
+ghost use Rattle.derivations.specs.declared.Work.{Work};
+ghost use Rattle.derivations.specs.Shown.{beside};
 ghost use Rattle.derivations.specs.Rules.{ExpansionJudged, ParentsJudged, RuleJudged};
-ghost use Rattle.derivations.specs.Judges.{counted_by, Judges, StandsAs, OnlyMarksIn, OnlyTestedIn, OnlyDerivedIn};
+ghost use Rattle.derivations.specs.Judges.{counted_by, Judges, StandsAs};
 
-use crate::{Derivation, Progress, Reason, Work};
+use crate::{Derivation, Progress, Reason};
 use assignment::least::Least;
 use clauses::PLACES;
 use copies::View;
 use indexes::Indexes;
+use mapped::Noted;
 use mapping::Mapped;
+use matrix::Starts;
 use reading::Counts;
+use resolvents::Seen;
 use rules::Rule;
-use tables::LentTables;
+use tables::ReadTables;
 
 // "judged as an `e` line with hint n": the first of the rules 9 and 11 that the pending clause, of `size` literals, breaks.
 fn expansion_broken(
     p: Progress,
     n: u32,
     size: usize,
-    tables: &LentTables,
-    work: &mut Work,
+    tables: ReadTables,
+    starts: &Starts,
+    noted: &Noted,
+    seen: &mut Seen,
+    held: &mut [u16],
 ) -> Result<(), Rule>
-    ensures broken { ExpansionJudged p n (tables_of tables.now) work.old (broken result) work.new.seen }
-    ensures rest { OnlyTestedIn work.old work.new }
+    ensures { (marks : List ℤ) (w : Work) → 8194 ≤ length held.old → ExpansionJudged p n
+        (read_of tables.entry marks) (beside w starts.now noted.now w.indexes seen.old) (broken result) seen.new }
 {
-    if !unmapped::all_mapped(p.store.pending(tables.proof), &work.noted) {
+    if !unmapped::all_mapped(p.store.pending(tables.proof), noted) {
         return Err(Rule::Unmapped);
     }
     let view = View::of(tables, p.store.written(), size);
-    let mut least = Least::new(&mut work.seen, &mut work.held);
-    if !expansion::expands_named(view, tables.matrix, &work.starts, n as usize, &mut least) {
+    let mut least = Least::new(seen, held);
+    if !expansion::expands_named(view, tables.matrix, starts, n as usize, &mut least) {
         return Err(Rule::NoExpansion);
     }
     Ok(())
@@ -42,31 +50,43 @@ fn parents_broken(
     p: Progress,
     a: u32,
     b: u32,
-    tables: &LentTables,
-    work: &mut Work,
+    tables: ReadTables,
+    marks: &[i32],
+    indexes: &Indexes,
+    seen: &mut Seen,
 ) -> Result<(), Rule>
-    ensures broken { ParentsJudged p a b (tables_of tables.now) work.old (broken result) work.new.seen }
-    ensures rest { OnlyTestedIn work.old work.new }
+    ensures { (w : Work) → ParentsJudged p a b
+        (read_of tables.entry marks.now) (beside w w.starts w.noted indexes.now seen.old) (broken result) seen.new }
 {
-    let i = indexes::place_of(&work.indexes, a).ok_or(Rule::BadParent)?;
-    let j = indexes::place_of(&work.indexes, b).ok_or(Rule::BadParent)?;
-    let standing = p.store.standing(tables.proof, tables.marks);
+    let i = indexes::place_of(indexes, a).ok_or(Rule::BadParent)?;
+    let j = indexes::place_of(indexes, b).ok_or(Rule::BadParent)?;
+    let standing = p.store.standing(tables.proof, marks);
     let d = standing.clause(i);
     let e = standing.clause(j);
-    if !resolvents::resolves(p.store.pending(tables.proof), d, e, &mut work.seen) {
+    if !resolvents::resolves(p.store.pending(tables.proof), d, e, seen) {
         return Err(Rule::BadParent);
     }
     Ok(())
 }
 
 // The first of the rules 16, 9 and 11 that the pending clause breaks.
-fn rule_broken(p: Progress, d: Derivation, tables: &LentTables, work: &mut Work) -> Result<(), Rule>
-    ensures broken { RuleJudged p d.reason (tables_of tables.now) work.old (broken result) work.new.seen }
-    ensures rest { OnlyTestedIn work.old work.new }
+fn rule_broken(
+    p: Progress,
+    d: Derivation,
+    tables: ReadTables,
+    marks: &[i32],
+    starts: &Starts,
+    noted: &Noted,
+    indexes: &Indexes,
+    seen: &mut Seen,
+    held: &mut [u16],
+) -> Result<(), Rule>
+    ensures { (w : Work) → 8194 ≤ length held.old → RuleJudged p d.reason
+        (read_of tables.entry marks.now) (beside w starts.now noted.now indexes.now seen.old) (broken result) seen.new }
 {
     match d.reason {
-        Reason::Clause(n) => expansion_broken(p, n, d.size, tables, work),
-        Reason::Parents(a, b) => parents_broken(p, a, b, tables, work),
+        Reason::Clause(n) => expansion_broken(p, n, d.size, tables, starts, noted, seen, held),
+        Reason::Parents(a, b) => parents_broken(p, a, b, tables, marks, indexes, seen),
     }
 }
 
@@ -98,21 +118,26 @@ fn stand(p: Progress, d: Derivation, marks: &mut [i32], indexes: &mut Indexes) -
     }
 }
 
-// Rules 17, 16, 9 and 11 of the pending clause, which is as the line says: it stands, or is refused.
+// Rules 17, 16, 9 and 11 of the pending clause, which is as the line says: it stands, or is refused. In `held`, which has room for every
+// literal of the formula, the test of an expansion lists literals.
 pub fn derive(
     p: Progress,
     d: Derivation,
-    tables: &mut LentTables,
-    work: &mut Work,
+    tables: ReadTables,
+    marks: &mut [i32],
+    starts: &Starts,
+    noted: &Noted,
+    indexes: &mut Indexes,
+    seen: &mut Seen,
+    held: &mut [u16],
 ) -> Result<Progress, Rule>
-    ensures judged { Judges d p (tables_of tables.old) work.old result (tables_of tables.new) work.new }
-    ensures rest { OnlyMarksIn (tables_of tables.old) (tables_of tables.new) }
-    ensures others { OnlyDerivedIn work.old work.new }
-    ensures lent { SameLent tables.old tables.new }
+    ensures { (w v : Work) → 8194 ≤ length held.old → Judges d p
+        (read_of tables.entry marks.old) (beside w starts.now noted.now indexes.old seen.old) result
+        (read_of tables.entry marks.new) (beside v starts.now noted.now indexes.new seen.new) }
 {
-    if indexes::place_of(&work.indexes, d.index).is_some() {
+    if indexes::place_of(indexes, d.index).is_some() {
         return Err(Rule::IndexUsed);
     }
-    rule_broken(p, d, tables, work)?;
-    Ok(stand(p, d, tables.marks, &mut work.indexes))
+    rule_broken(p, d, tables, marks, starts, noted, indexes, seen, held)?;
+    Ok(stand(p, d, marks, indexes))
 }

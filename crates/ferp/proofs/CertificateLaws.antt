@@ -22,7 +22,7 @@ use Rattle.derivations.specs.Shown.{Shown, ferp_rules, ferp_code}
 use Rattle.ferp.specs.Certificate.{end_broken}
 
 -- THE END: what the rules say, by the code's number
-ended_is : {p : Progress} {t : Tables} {w : Work} {k : ℕ} → k ≡ end_broken p t.proof t.marks → (f : Formula) (s : Derived) → Shown p t w f s
+pub ended_is : {p : Progress} {t : Tables} {w : Work} {k : ℕ} → k ≡ end_broken p t.proof t.marks → (f : Formula) (s : Derived) → Shown p t w f s
     → certificate_end s ≡ numbered k
 unfolding certificate_end end_broken
 ended_is {p} {t} i f s sh =

@@ -6,7 +6,7 @@ ghost use Rattle.ferp.specs.Lines.{Line};
 
 use derivations::{Progress, Work, limit_broken};
 use rules::Rule;
-use tables::LentTables;
+use tables::{LentTables, ReadTables};
 
 // A positive index, literals, `0`, one or two numbers, `0`.
 pub fn clause_line(
@@ -32,5 +32,23 @@ pub fn clause_line(
         tables.values.len(),
     )?;
     buffers::store_line(line, from, d.size, &work.buffer, tables.proof, p.store)?;
-    derivations::derive(p, d, tables, work)
+    let read = ReadTables {
+        prefix: &mut *tables.prefix,
+        matrix: &mut *tables.matrix,
+        map: &mut *tables.map,
+        proof: &mut *tables.proof,
+        values: &mut *tables.values,
+    };
+    let marks = &mut *tables.marks;
+    derivations::derive(
+        p,
+        d,
+        read,
+        marks,
+        &work.starts,
+        &work.noted,
+        &mut work.indexes,
+        &mut work.seen,
+        &mut work.held,
+    )
 }

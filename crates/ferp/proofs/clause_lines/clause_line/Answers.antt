@@ -1,4 +1,5 @@
 use Rattle.std.proofs.Common.{◌≡◌, sym, ◌∙◌, Err, rules}
+use native.Mathlib.Omega.{arith}
 use Rattle.rules.specs.declared.Rule.TheVariants.{Malformed}
 use Rattle.tables.specs.Lent.{tables_of}
 use Rattle.ferp.proofs.ClauseLaws.{clause_bad, clause_limited, literals_ended, in_buffer, clause_judged}
@@ -21,5 +22,9 @@ returns-in_err-store_line-clause-read c =
 
 pub returns-clause-read : goal.returns-clause-read
 returns-clause-read c =
+    let w = c.args.work.now in
+    let read = record w { buffer = c.derivation_at.new.buffer } in
+    let judged = record w { held = c.derive.new.held; buffer = c.derivation_at.new.buffer } in
     clause_judged _ _ _ _ _ (sym c.derivation_at.ensures.measured ∙ c.in_ok-d.ensures.ok_part) c.in_ok-limit_broken.ensures _
-    (c.store_line.ensures (in_buffer c.args.line.now 0 c.args.p (tables_of c.args.tables.now) c.args.work.now (sym c.derivation_at.ensures.measured ∙ c.in_ok-d.ensures.ok_part) c.in_ok-limit_broken.ensures c.args.work.now.buffer c.derivation_at.ensures c.in_ok-d.ensures.ok_part)).0 c.derive.ensures.judged
+    (c.store_line.ensures (in_buffer c.args.line.now 0 c.args.p (tables_of c.args.tables.now) w (sym c.derivation_at.ensures.measured ∙ c.in_ok-d.ensures.ok_part) c.in_ok-limit_broken.ensures w.buffer c.derivation_at.ensures c.in_ok-d.ensures.ok_part)).0
+    (c.derive.ensures read judged (omega arith))
