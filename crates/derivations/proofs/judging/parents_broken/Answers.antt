@@ -17,10 +17,10 @@ returns-in_err-j-clause-broken c =
 
 pub returns-then-not-resolves-clause-broken : goal.returns-then-not-resolves-clause-broken
 returns-then-not-resolves-clause-broken c =
-    parents_judged _ _ _ (tables_of c.args.tables.now) c.args.work.now c.place_of.ensures c.in_ok-i.ensures.ok_part c.place_of-2.ensures c.in_ok-j.ensures.ok_part c.pending.ensures
+    parents_judged _ _ _ (tables_of c.args.tables.now) c.args.work.now c.place_of.ensures c.in_ok-i.ensures.ok_part c.place_of-2.ensures c.in_ok-j.ensures.ok_part c.pending.ensures.left
     c.standing-standing.ensures.proof c.standing-standing.ensures.marks c.clause-d.ensures c.clause-e.ensures c.resolves.ensures (no _ _ _ c.if-not-resolves.true refl)
 
 pub returns-clause-broken : goal.returns-clause-broken
 returns-clause-broken c =
-    parents_judged _ _ _ (tables_of c.args.tables.now) c.args.work.now c.place_of.ensures c.in_ok-i.ensures.ok_part c.place_of-2.ensures c.in_ok-j.ensures.ok_part c.pending.ensures
+    parents_judged _ _ _ (tables_of c.args.tables.now) c.args.work.now c.place_of.ensures c.in_ok-i.ensures.ok_part c.place_of-2.ensures c.in_ok-j.ensures.ok_part c.pending.ensures.left
     c.standing-standing.ensures.proof c.standing-standing.ensures.marks c.clause-d.ensures c.clause-e.ensures c.resolves.ensures (yes _ _ _ c.if-not-resolves.false refl)
