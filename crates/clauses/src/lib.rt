@@ -5,7 +5,7 @@ ghost use Rattle.std.specs.Prelude.{◌≡◌, [], ◌+◌, ◌<◌, cond};
 ghost use Rattle.rules.specs.Basics.{is_in};
 ghost use Rattle.rules.specs.Rule.{broken};
 ghost use Rattle.lists.specs.Stores.{ending_at};
-ghost use Rattle.cells.specs.Codes.{codes_left};
+ghost use Rattle.cells.specs.Codes.{codes_left, codes_table, codes_place};
 ghost use Rattle.clauses.specs.Standing.{standing_of, stands_at, clause_of, empty_of, has_empty};
 ghost use Rattle.clauses.specs.Standing.{places_of, empty_above, pending, written_at, room_for, stored, removed, StandsNow};
 
@@ -81,7 +81,8 @@ impl Store {
     // The pending clause.
     #[tactic(auto, unfolding(crate::specs::Standing::pending))]
     pub fn pending(self, table: &[i32]) -> Codes<'_>
-        ensures { codes_left result ≡ pending table.now self }
+        ensures left { codes_left result ≡ pending table.now self }
+        ensures from { (codes_table result ≡ table.now) × (codes_place result ≡ self.used) }
     {
         Codes::new(table, self.used)
     }

@@ -26,7 +26,7 @@ pub const NODES: usize = 2 * CLAUSES;
 
 // Watched literals: for each literal the first node that watches it, for each node the next of its list, and for each clause the exclusive or of
 // the two literals that it watches.
-#[derive(Drop)]
+#[derive(Clone, Copy)]
 pub struct Watches {
     pub first: [u32; CODES],
     pub next: [u32; NODES],
@@ -37,7 +37,7 @@ pub struct Watches {
 pub const END: u32 = u32::MAX;
 
 // What propagation works on: which literals are false, and the watches.
-#[derive(Drop)]
+#[derive(Clone, Copy)]
 pub struct Propagation {
     pub trail: Trail,
     pub watches: Watches,

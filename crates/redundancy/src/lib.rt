@@ -73,9 +73,16 @@ fn candidate(standing: Standing, propagation: &mut Propagation, joined: Joined) 
         × (result ≡ rup_of (standing_of standing.entry) (joined_in joined.entry)) }
 {
     let from = propagation.trail.length;
-    let outcome = refute(standing, propagation, joined);
-    propagation.trail.undo(from);
-    outcome == Outcome::Conflict
+    match refute(standing, propagation, joined) {
+        Outcome::Conflict => {
+            propagation.trail.undo(from);
+            true
+        }
+        Outcome::Stable => {
+            propagation.trail.undo(from);
+            false
+        }
+    }
 }
 
 // Every standing clause that holds the negation of l is a candidate.

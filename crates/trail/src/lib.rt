@@ -5,10 +5,13 @@ ghost use Rattle.std.specs.Prelude.{◌≡◌, ◌≤◌, ◌<◌, take};
 ghost use Rattle.rules.specs.Codes.{flip as negation};
 ghost use Rattle.trail.specs.Trail.{off, truth, ShapeIn, TrailedIn, literal_in, AssumedIn, UndoneIn};
 
-// falses[l] is not 0: the literal l is false; literals[0..length): the false literals, in the order in which they became false.
-#[derive(Drop)]
+// Not 0 at l: the literal l is false.
+pub type Falses = [u8; 65536];
+
+// falses tells which literals are false; literals[0..length): the false literals, in the order in which they became false.
+#[derive(Clone, Copy)]
 pub struct Trail {
-    pub falses: [u8; 65536],
+    pub falses: Falses,
     pub literals: [u16; 65536],
     pub length: usize,
 }

@@ -7,7 +7,7 @@ use Rattle.derivations.proofs.judging.expansion_broken.Goals as goal
 pub returns-then-not-all_mapped : goal.returns-then-not-all_mapped
 returns-then-not-all_mapped c = λ marks w h s.
     let u = beside w c.args.starts.now c.args.noted.now w.indexes c.args.seen.now in
-    (unmapped_copy _ _ (read_of c.args.tables marks) u c.pending.ensures c.all_mapped.ensures c.if-not-all_mapped.true, s)
+    (unmapped_copy _ _ (read_of c.args.tables marks) u c.pending.ensures.left c.all_mapped.ensures c.if-not-all_mapped.true, s)
 
 pub returns-then-not-expands_named : goal.returns-then-not-expands_named
 returns-then-not-expands_named c = λ marks w h s.
@@ -15,7 +15,7 @@ returns-then-not-expands_named c = λ marks w h s.
     let v = c.of-view.ensures in
     let u = beside w c.args.starts.now c.args.noted.now w.indexes c.args.seen.now in
     let x = c.expands_named.ensures.answer (rw (n.now.0, n.now.1) (clear_unmarked s, h, n.none)) in (
-      no_expansion _ _ (read_of c.args.tables marks) u c.pending.ensures c.all_mapped.ensures c.if-not-all_mapped.false c.written.ensures
+      no_expansion _ _ (read_of c.args.tables marks) u c.pending.ensures.left c.all_mapped.ensures c.if-not-all_mapped.false c.written.ensures
           c.of-view.result v.prefix v.values v.map v.proof v.line x.0 c.if-not-expands_named.true,
       unmarked_clear (c.expands_named.ensures.lent.2 ∙ ap length n.now.0) s x.1.0,
     )
@@ -26,7 +26,7 @@ returns c = λ marks w h s.
     let v = c.of-view.ensures in
     let u = beside w c.args.starts.now c.args.noted.now w.indexes c.args.seen.now in
     let x = c.expands_named.ensures.answer (rw (n.now.0, n.now.1) (clear_unmarked s, h, n.none)) in (
-      expansion_is _ _ (read_of c.args.tables marks) u c.pending.ensures c.all_mapped.ensures c.if-not-all_mapped.false c.written.ensures
+      expansion_is _ _ (read_of c.args.tables marks) u c.pending.ensures.left c.all_mapped.ensures c.if-not-all_mapped.false c.written.ensures
           c.of-view.result v.prefix v.values v.map v.proof v.line x.0 c.if-not-expands_named.false,
       unmarked_clear (c.expands_named.ensures.lent.2 ∙ ap length n.now.0) s x.1.0,
     )

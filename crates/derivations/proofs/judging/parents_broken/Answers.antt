@@ -24,12 +24,12 @@ pub returns-then-not-resolves : goal.returns-then-not-resolves
 returns-then-not-resolves c = λ w.
     let t = read_of c.args.tables c.args.marks.now in
     let v = beside w w.starts w.noted c.args.indexes.now c.args.seen.now in
-    parents_judged _ _ _ t v c.place_of.ensures c.in_ok-i.ensures.ok_part c.place_of-2.ensures c.in_ok-j.ensures.ok_part c.pending.ensures
+    parents_judged _ _ _ t v c.place_of.ensures c.in_ok-i.ensures.ok_part c.place_of-2.ensures c.in_ok-j.ensures.ok_part c.pending.ensures.left
     c.standing-standing.ensures.proof c.standing-standing.ensures.marks c.clause-d.ensures c.clause-e.ensures c.resolves.ensures (no _ _ _ c.if-not-resolves.true refl)
 
 pub returns : goal.returns
 returns c = λ w.
     let t = read_of c.args.tables c.args.marks.now in
     let v = beside w w.starts w.noted c.args.indexes.now c.args.seen.now in
-    parents_judged _ _ _ t v c.place_of.ensures c.in_ok-i.ensures.ok_part c.place_of-2.ensures c.in_ok-j.ensures.ok_part c.pending.ensures
+    parents_judged _ _ _ t v c.place_of.ensures c.in_ok-i.ensures.ok_part c.place_of-2.ensures c.in_ok-j.ensures.ok_part c.pending.ensures.left
     c.standing-standing.ensures.proof c.standing-standing.ensures.marks c.clause-d.ensures c.clause-e.ensures c.resolves.ensures (yes _ _ _ c.if-not-resolves.false refl)

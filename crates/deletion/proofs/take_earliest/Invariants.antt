@@ -1,0 +1,4 @@
+-- There is no loop: the earliest clause alone is taken.
+-- The must-fail edit every_equal_deleted plants one that takes the others too,
+-- and writes over these lines the invariant that it breaks:
+-- the marks stay as they are.
