@@ -52,7 +52,7 @@ module _ (bs : List ℕ) where
       go true e = sym (ap (λ n. eqb n 0) (run_stop (passes Word) bs i h (ap not e)))
       go false e = let r = run_go (passes Word) bs i h (ap not e) in sym (ne_eqb (run (passes Word) (drop i bs)) 0 (λ q. omega arith))
 
-  ends_past : (i : ℕ) → length bs ≤ i → true ≡ eqb (run (passes Word) (drop i bs)) 0
+  pub ends_past : (i : ℕ) → length bs ≤ i → true ≡ eqb (run (passes Word) (drop i bs)) 0
   ends_past i h = sym (ap (λ n. eqb n 0) (run_past (passes Word) bs i h))
 
   pub ends_told : (i : ℕ) {t : Bool} → ((i < length bs) × (t ≡ is_blank (get_or bs i 0))) ⊎ ((length bs ≤ i) × (t ≡ true)) → t ≡ eqb (run (passes Word) (drop i bs)) 0
@@ -150,12 +150,15 @@ module _ (bs : List ℕ) where
   blank_skipped at h e = omega (arith, run_go is_blank bs at h e)
 
   -- past the end there is no minus
-  no_minus : (s : ℕ) → length bs ≤ s → is_minus (get_or bs s 0) ≡ false
-  no_minus s h = held_not Minus (get_or bs s 0) (λ q. omega (arith, get_or-eq_default bs 0 h))
+  past_end : (s : ℕ) → length bs ≤ s → is_minus (get_or bs s 0) ≡ false
+  past_end s h = held_not Minus (get_or bs s 0) (λ q. omega (arith, get_or-eq_default bs 0 h))
+
+  pub no_minus : (s : ℕ) → length bs ≤ s → ◌≡◌ {A = ℕ} 0 (cond (is_minus (get_or bs s 0)) 1 0)
+  no_minus s h = sym (ap (λ t. cond t 1 0) (past_end s h))
 
   pub minus_told : (s : ℕ) {t : Bool} → ((s < length bs) × (t ≡ is_minus (get_or bs s 0))) ⊎ ((length bs ≤ s) × (t ≡ false)) → t ≡ is_minus (get_or bs s 0)
   minus_told s (inl k) = k.1
-  minus_told s (inr k) = k.1 ∙ sym (no_minus s k.0)
+  minus_told s (inr k) = k.1 ∙ sym (past_end s k.0)
 
   -- a token that may start at s; g is its sign
   module _ (s : ℕ) {g : ℕ} (m : g ≡ cond (is_minus (get_or bs s 0)) 1 0) where
@@ -164,7 +167,7 @@ module _ (bs : List ℕ) where
     sign_fits {n} l k = go (leb (length bs) s) refl
       where
         go : (t : Bool) → leb (length bs) s ≡ t → s + g ≤ n
-        go true h = let z = m ∙ ap (λ t. cond t 1 0) (no_minus s (leb-true (length bs) s h)) in omega arith
+        go true h = omega (arith, m, no_minus s (leb-true (length bs) s h))
         go false h = omega (arith, leb-false (length bs) s h, sign_small (is_minus (get_or bs s 0)) m)
 
     -- its code fits

@@ -137,10 +137,10 @@ module _ (bs : List ℕ) (at : ℕ) where
     unfolding clause_at exactly ended_at
     closed g = ap (λ r. surveyed (r >>= λ r. whole r.0 r.1)) (listed_told bs at h).list ∙ ap (λ t. surveyed (provided t (lits_at bs at))) (sym g)
 
-    long_line : {t : Bool} → t ≡ ended_at bs e → t ≡ false → None ≡ clause_at bs at
+    pub long_line : {t : Bool} → t ≡ ended_at bs e → t ≡ false → None ≡ clause_at bs at
     long_line g f = sym (closed (sym f ∙ g))
 
-    good_line : {t : Bool} → t ≡ ended_at bs e → t ≡ true → Some q ≡ clause_at bs at
+    pub good_line : {t : Bool} → t ≡ ended_at bs e → t ≡ true → Some q ≡ clause_at bs at
     good_line g f =
         let o = listed_told bs at h in
         ap₂ (λ x y. Some (record { negative = x; count = y; largest = q.largest })) o.sign o.count
