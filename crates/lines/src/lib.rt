@@ -176,7 +176,8 @@ fn before_end(block: &[u8]) -> usize
     n
 }
 
-// The place of the line's end, as `past` has it; eight bytes at a time.
+// The place of the line's end, as `past` has it; eight bytes at a time. Part of each caller: for a line of no bytes a call costs more than the test.
+#[inline(always)]
 pub fn line_end(s: &[u8], at: usize) -> usize
     ensures { result ≡ at + run (passes Line) (drop at s.now) }
 {
@@ -300,6 +301,7 @@ fn minus_at(line: &[u8], s: usize) -> u32
 }
 
 // The next token as a literal, or as the zero that ends a list, in one walk, if it is well-formed and short.
+#[inline(always)]
 pub fn plain_at(line: &[u8], at: usize) -> Option<(u32, usize)>
     ensures { (x e : ℕ) → result ≡ Some (x, e) → literal_at line.now at ≡ Some (x, e) }
 {
@@ -309,13 +311,10 @@ pub fn plain_at(line: &[u8], at: usize) -> Option<(u32, usize)>
     (sign <= v).then_some((2 * v + sign, e))
 }
 
-// The next token as a literal, or as the zero that ends a list. What `plain_at` does not read is read by `number_of`.
-pub fn literal_at(line: &[u8], at: usize) -> Option<(u32, usize)>
+// The next token as a literal, or as the zero that ends a list, however it is written.
+fn written_at(line: &[u8], at: usize) -> Option<(u32, usize)>
     ensures { result ≡ literal_at line.now at }
 {
-    if let Some((x, e)) = plain_at(line, at) {
-        return Some((x, e));
-    }
     let s = past(line, at, Run::Blanks);
     if line.len() <= s {
         return None;
@@ -323,6 +322,18 @@ pub fn literal_at(line: &[u8], at: usize) -> Option<(u32, usize)>
     let e = past(line, s, Run::Word);
     let x = number_of(&line[s..e])?;
     Some((x, e))
+}
+
+// The next token as a literal, or as the zero that ends a list. What `plain_at` does not read is read by `number_of`. The walk for plain tokens is
+// part of each caller's loop: a call would hand each literal over in memory.
+#[inline(always)]
+pub fn literal_at(line: &[u8], at: usize) -> Option<(u32, usize)>
+    ensures { result ≡ literal_at line.now at }
+{
+    if let Some((x, e)) = plain_at(line, at) {
+        return Some((x, e));
+    }
+    written_at(line, at)
 }
 
 // The literals of a line from a place on, each with the place after it, up to a token that is none; the zero that ends a list is among them.
@@ -347,6 +358,7 @@ impl<'a> Iterator for Literals<'a> {
 
     ghost remaining = { bytes_left };
 
+    #[inline(always)]
     fn next(&mut self) -> Option<(u32, usize)> {
         let (x, e) = literal_at(self.line, self.at)?;
         self.at = e;

@@ -1,6 +1,6 @@
 use mathlib.Core.Path.{◌∙◌}
 use Rattle.lines.proofs.Words.{literal_none, word_within, literal_read, literal_other}
-use Rattle.lines.proofs.literal_at.Goals as goal
+use Rattle.lines.proofs.written_at.Goals as goal
 
 pub returns-then-line-s : goal.returns-then-line-s
 returns-then-line-s c = literal_none _ _ c.past-s.ensures c.if-line-s.true
