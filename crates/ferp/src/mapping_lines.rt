@@ -33,6 +33,9 @@ pub fn mapping_line(
     ensures noted { work.new ≡ record work.old { noted = work.new.noted } }
     ensures lent { SameLent tables.old tables.new }
 {
+    let prefix = &mut *tables.prefix;
+    let map = &mut *tables.map;
+    let values = &mut *tables.values;
     Ok(Progress {
         mapped: mapping::mapping_line(
             line,
@@ -40,7 +43,9 @@ pub fn mapping_line(
             before_clauses(p),
             p.formula.v,
             p.mapped,
-            tables,
+            prefix,
+            map,
+            values,
             &mut work.noted,
         )?,
         ..p

@@ -4,6 +4,7 @@ use mathlib.Core.Bool.{Bool, true, false, cond, ◌||◌}
 use mathlib.Core.List.{List, [], ◌∷◌, ◌++◌}
 use mathlib.Core.Option as rules
 use Prim.Native.Nat.{ℕ, zero, suc, ◌+◌, ◌%◌, ◌≤◌, ◌<◌}
+use native.Mathlib.Numerals.{add-one}
 use native.Mathlib.Omega.{arith}
 use lib.Dec.{eqb}
 use lib.ListN.{length, get_or, set, replicate, length-replicate, length-set}
@@ -107,21 +108,23 @@ place_more (k ∷ is) i j h =
     go false x true y = refl
     go false x false y = refl
 
-pub shown_more : {a is : List ℕ} → IndexesShown a is → (i : ℕ) → i ≤ 65536 → is_in is i ≡ false → (k : ℕ) → (k + 1) % 4294967296 ≡ suc (length is)
-    → IndexesShown (noted a i k) (is ++ (i ∷ []))
-unfolding noted place_at
-shown_more {a} {is} h i l n k e = record {
-  long = length-set a i ((k + 1) % 4294967296) ∙ h.long;
+-- the place noted is its number counted from 1
+pub shown_set : {a is : List ℕ} → IndexesShown a is → (i : ℕ) → i ≤ 65536 → is_in is i ≡ false → {k : ℕ} → k ≡ length is + 1
+    → IndexesShown (set a i k) (is ++ (i ∷ []))
+unfolding place_at
+shown_set {a} {is} h i l n {k} e = record {
+  long = length-set a i k ∙ h.long;
   each = λ j m. go j m (eqb j i) refl ∙ sym (place_more is i j n);
 }
   where
-    go : (j : ℕ) → j ≤ 65536 → (b : Bool) → eqb j i ≡ b
-        → counted (get_or (set a i ((k + 1) % 4294967296)) j 0) ≡ cond (eqb j i) (Some (length is)) (place_in is j)
+    go : (j : ℕ) → j ≤ 65536 → (b : Bool) → eqb j i ≡ b → counted (get_or (set a i k) j 0) ≡ cond (eqb j i) (Some (length is)) (place_in is j)
     go j m true q =
-        ap counted
-        (ap (λ x. get_or (set a x ((k + 1) % 4294967296)) j 0) (sym (eqb-true j i q)) ∙ get_or-set_same a j ((k + 1) % 4294967296) 0 (omega (arith, h.long, m))
-        ∙ e)
+        ap counted (ap (λ x. get_or (set a x k) j 0) (sym (eqb-true j i q)) ∙ get_or-set_same a j k 0 (omega (arith, h.long, m)) ∙ e ∙ add-one (length is))
         ∙ sym (ap (λ b. cond b (Some (length is)) (place_in is j)) q)
     go j m false q =
-        ap counted (get_or-set_other a i j ((k + 1) % 4294967296) 0 (eqb-false j i q)) ∙ h.each j m
-        ∙ sym (ap (λ b. cond b (Some (length is)) (place_in is j)) q)
+        ap counted (get_or-set_other a i j k 0 (eqb-false j i q)) ∙ h.each j m ∙ sym (ap (λ b. cond b (Some (length is)) (place_in is j)) q)
+
+pub shown_more : {a is : List ℕ} → IndexesShown a is → (i : ℕ) → i ≤ 65536 → is_in is i ≡ false → (k : ℕ) → (k + 1) % 4294967296 ≡ suc (length is)
+    → IndexesShown (noted a i k) (is ++ (i ∷ []))
+unfolding noted
+shown_more h i l n k e = shown_set h i l n (omega (arith, e))

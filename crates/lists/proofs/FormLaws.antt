@@ -339,29 +339,6 @@ module _ (bs : List ℕ) where
                 form = lengths (eq-eqb q.count t.count u);
               }
 
-    -- the same whatever the tests before
-    module _ {q : Measure} {i : ℕ} (a : listed_at bs at ≡ Some (q, i)) where
-      unsigned_1 : (q.negative ≡ false → mapping_form (tokens_from bs at) ≡ none) → mapping_form (tokens_from bs at) ≡ none
-      unsigned_1 otherwise = go q.negative refl
-        where
-          go : (b : Bool) → q.negative ≡ b → mapping_form (tokens_from bs at) ≡ none
-          go true z = signed_1 a z
-          go false z = otherwise z
-
-      pub none_second : listed_at bs i ≡ None → mapping_form (tokens_from bs at) ≡ none
-      none_second b = unsigned_1 (λ z. lost_2 a z b)
-
-      module _ {t : Measure} {h : ℕ} (b : listed_at bs i ≡ Some (t, h)) where
-        unsigned_2 : (q.negative ≡ false → t.negative ≡ false → mapping_form (tokens_from bs at) ≡ none) → mapping_form (tokens_from bs at) ≡ none
-        unsigned_2 otherwise = unsigned_1 (λ z. go z t.negative refl)
-          where
-            go : q.negative ≡ false → (x : Bool) → t.negative ≡ x → mapping_form (tokens_from bs at) ≡ none
-            go z true y = signed_2 a z b y
-            go z false y = otherwise z y
-
-        pub none_third : clause_at bs h ≡ None → mapping_form (tokens_from bs at) ≡ none
-        none_third c = unsigned_2 (λ z y. lost_3 a z b y c)
-
     pub lists : {k m p e l i h : ℕ} → Mapped bs at k m p e l i h
         → Some (record { copies = k; literals = m; highest_copy = p; highest_existential = e; highest_universal = l; existentials_at = i; literals_at = h }) ≡ mapping_at bs at
     unfolding mapping_at

@@ -87,9 +87,15 @@ pub fn mapping_at(line: &[u8], at: usize) -> Option<MappingLists>
     ensures { result ≡ mapping_at line.now at }
 {
     let (copies, i) = list_at(line, at)?;
+    if copies.negative {
+        return None;
+    }
     let (existentials, h) = list_at(line, i)?;
+    if existentials.negative {
+        return None;
+    }
     let literals = clause_at(line, h)?;
-    if copies.negative || existentials.negative || copies.count != existentials.count {
+    if copies.count != existentials.count {
         return None;
     }
     Some(MappingLists {

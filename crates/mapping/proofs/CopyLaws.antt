@@ -9,30 +9,53 @@ use lib.ListN.{length, take, get_or, set, length-set, length-map}
 use lib.Seq.{take-set-le, get_or-take}
 use lib.IntN.{ℤ, pos}
 use lib.Dec.{eqb, leb}
-use borrow.Author.Tests.{ne_eqb, eqb-true, eqb-false, leb-true}
+use borrow.Author.Tests.{ne_eqb, eqb-true, eqb-false, leb-true, le-leb, lt-leb}
+use Rattle.std.proofs.Common.{Result, Ok, Err}
 use Rattle.cells.specs.Cells.{num, cell_at, list_at, Kept}
 use Rattle.cells.proofs.Laws.{at_same, at_other, kept_self, kept_chain, kept_set, stored}
 use Rattle.prefix.specs.Prefix.{entry}
 use Rattle.lines.specs.Scan.{cap}
 use Rattle.lists.specs.Lists.{is_list}
-use Rattle.lists.specs.Stores.{codes_at, puts, in_range}
+use Rattle.lists.specs.Stores.{codes_at, ending_at, puts, in_range}
 use Rattle.lists.proofs.StoreLaws.{list_kept}
 use Rattle.rules.specs.Basics.{is_in, distinct}
 use Rattle.rules.specs.Literals.{Lits}
+use Rattle.rules.specs.declared.Rule.{Rule}
+use Rattle.rules.specs.declared.Rule.TheVariants.{Malformed}
+use Rattle.rules.specs.Rule.{number}
 use Rattle.rules.specs.Codes.{code_of}
 use Rattle.rules.specs.Expansion.{Copy, copies, copy_vars, is_mapped, stands_for, annotation}
 use Rattle.rules.proofs.Kit.{and_l, and_r, by_yes, eqb_self, In}
 use Rattle.rules.proofs.Distinct.{is_in_in, distinct_tail, distinct_new, append_distinct}
 use Rattle.mapped.specs.Numbers.{numbers_at, end_of}
-use Rattle.mapping.specs.Stores.{Written, written, copying}
+use Rattle.mapping.specs.Stores.{Written, written, paired_end, stored_end, copying}
 use Rattle.mapping.specs.Shown.{CopyShown}
 use Rattle.mapped.proofs.MarkLaws.{mapped_in_lem, mapped_append}
+
+-- THE ANNOTATION is stored: it is a list, or the refusal of one that is none is the storing's
+module _ (bs : List ℕ) (notes : ℕ) {r : Result (Unit {0}) Rule} (q : r ≡ ending_at bs notes) where
+  pub stored_list : {x : Unit {0}} → r ≡ Ok x → is_list bs notes ≡ true
+  unfolding ending_at
+  stored_list {x} e = go (is_list bs notes) (sym q ∙ e)
+    where
+      go : (b : Bool) → ◌≡◌ {A = Result (Unit {0}) Rule} (cond b (Ok tt) (Err Malformed)) (Ok x) → b ≡ true
+      go true e = refl
+      go false e = cc
+
+  pub stored_lost : {k : Rule} → r ≡ Err k → (at from : ℕ) → number k ≡ stored_end bs at from notes
+  unfolding ending_at stored_end
+  stored_lost {k} e at from = go (is_list bs notes) (sym q ∙ e)
+    where
+      go : (b : Bool) → ◌≡◌ {A = Result (Unit {0}) Rule} (cond b (Ok tt) (Err Malformed)) (Err k) → number k ≡ cond b (paired_end bs at from) 2
+      go true e = cc
+      go false e = let z : Malformed ≡ k = cc in ap number (sym z)
 
 -- A TURN of storing the copies: what is left to store, stored in the tables as they are, is the whole
 pub record Copying (bs : List ℕ) (at from note first : ℕ) (t₀ u₀ t u : List ℤ) (ps : List ℕ) (d : ℕ) (es : List ℕ) (e k : ℕ) : Type 0 where
   pub long : length t ≡ length t₀
   pub wide : length u ≡ length u₀
   pub low : k + 2 * length ps ≤ first + 2 * length (numbers_at bs at)
+  pub even : length (numbers_at bs at) + length es ≡ length (numbers_at bs from) + length ps
   pub text : note < 2147483648 → first + 2 * length bs < 2147483648
       → copying note ps es k t u ≡ copying note (numbers_at bs at) (numbers_at bs from) first t₀ u₀
   pub copies_end : d ≡ end_of bs at
@@ -54,6 +77,7 @@ module _ (bs : List ℕ) (at from note first : ℕ) (t₀ u₀ : List ℤ) where
     long = refl;
     wide = refl;
     low = omega (arith, ap length a);
+    even = omega (arith, ap length a, ap length c);
     text = λ n l. ap₂ (λ ps es. copying note ps es first t₀ u₀) a c;
     copies_end = b;
     existentials_end = g;
@@ -74,6 +98,23 @@ module _ {bs : List ℕ} {at from note first : ℕ} {t₀ u₀ t u : List ℤ} {
       none_left [] = refl
       none_left (p ∷ ps) = refl
 
+  -- the refusal that the end is, of an annotation that is a list
+  module _ (notes : ℕ) (l : is_list bs notes ≡ true) where
+    paired : {n : ℕ} → n ≡ paired_end bs at from → n ≡ stored_end bs at from notes
+    unfolding stored_end
+    paired e = e ∙ sym (ap (λ b. cond b (paired_end bs at from) 2) l)
+
+    pub end_copies : ps ≡ [] → {n : ℕ} → n ≡ d → n ≡ stored_end bs at from notes
+    end_copies o e =
+        paired (e ∙ s.copies_end
+        ∙ sym (ap (λ b. cond b (end_of bs at) (end_of bs from)) (le-leb (length (numbers_at bs at)) (length (numbers_at bs from)) (omega (arith, s.even, ap length o)))))
+
+    pub end_existentials : {p : ℕ} {rest : List ℕ} → ps ≡ p ∷ rest → es ≡ [] → {n : ℕ} → n ≡ e → n ≡ stored_end bs at from notes
+    end_existentials o q e =
+        paired (e ∙ s.existentials_end
+        ∙ sym (ap (λ b. cond b (end_of bs at) (end_of bs from))
+        (lt-leb (length (numbers_at bs at)) (length (numbers_at bs from)) (omega (arith, s.even, ap length o, ap length q)))))
+
   module _ {p : ℕ} {rest : List ℕ} (o : ps ≡ p ∷ rest) {x : ℕ} {more : List ℕ} (q : es ≡ x ∷ more) where
     pub copying_more : x ≤ cap → length (numbers_at bs at) ≤ length bs → {c g : ℕ} → d ≡ c → e ≡ g → {t₁ t₂ u₁ : List ℤ}
         → t₁ ≡ set t (k % 2147483648) (pos (x % 2147483648)) → t₂ ≡ set t₁ (k % 2147483648 + 1) (pos (note % 2147483648))
@@ -87,6 +128,7 @@ module _ {bs : List ℕ} {at from note first : ℕ} {t₀ u₀ t u : List ℤ} {
           long = ap length y₂ ∙ length-set t₁ (k % 2147483648 + 1) (pos (note % 2147483648)) ∙ ap length y₁ ∙ length-set t (k % 2147483648) (pos (x % 2147483648)) ∙ s.long;
           wide = ap length y₃ ∙ length-set u (p - 1) (pos (k % 2147483648 % 2147483648)) ∙ s.wide;
           low = omega arith;
+          even = omega (arith, s.even, one, ap length q);
           text = λ n l.
               let w : k % 2147483648 ≡ k = stored (omega arith) in
               let e₁ : t₁ ≡ set t k (pos x) = y₁ ∙ ap₂ (λ w v. set t w (pos v)) w (stored (omega arith)) in

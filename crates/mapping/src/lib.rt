@@ -4,7 +4,6 @@
 mod stores;
 
 ghost use Rattle.std.specs.Prelude.{◌≡◌};
-ghost use Rattle.tables.specs.Lent.{tables_of, SameLent};
 ghost use Rattle.mapping.specs.MappingLine.{ranged, lent, MappingLine};
 
 use annotation::annotates;
@@ -12,7 +11,6 @@ use lists::MappingLists;
 use mapped::{COPIES, Noted, fresh};
 use rules::Rule;
 pub use stores::store;
-use tables::LentTables;
 
 // Places of the map table below 2^31 are stored as they are.
 pub const PLACES: usize = 2147483648;
@@ -42,15 +40,13 @@ pub fn mapping_line(
     in_turn: bool,
     v: u32,
     state: Mapped,
-    tables: &mut LentTables,
+    prefix: &[i32],
+    map: &mut [i32],
+    values: &mut [i32],
     noted: &mut Noted,
 ) -> Result<Mapped, Rule>
-    ensures read { MappingLine line.now at in_turn v state (tables_of tables.old).prefix
-        (lent (tables_of tables.old).map (tables_of tables.old).values noted.old) result
-        (lent (tables_of tables.new).map (tables_of tables.new).values noted.new) }
-    ensures rest { tables_of tables.new ≡ record (tables_of tables.old)
-        { map = (tables_of tables.new).map; values = (tables_of tables.new).values } }
-    ensures lent { SameLent tables.old tables.new }
+    ensures { MappingLine line.now at in_turn v state prefix.now
+        (lent map.old values.old noted.old) result (lent map.new values.new noted.new) }
 {
     let lists = lists::mapping_at(line, at).ok_or(Rule::Malformed)?;
     if !in_turn {
@@ -61,12 +57,11 @@ pub fn mapping_line(
     }
     let used = state.used % PLACES + (2 * lists.copies + lists.literals + 3);
     let largest = state.largest.max(lists.highest_copy);
-    if tables.map.len() < used || tables.values.len() < largest as usize {
+    if map.len() < used || values.len() < largest as usize {
         return Err(Rule::TableFull);
     }
     fresh(line, at, noted)?;
-    let prefix = &mut *tables.prefix;
     annotates(line, lists.existentials_at, lists.literals_at, prefix)?;
-    store(line, at, lists, state.used, tables.map, tables.values)?;
+    store(line, at, lists, state.used, map, values)?;
     Ok(Mapped { used, largest })
 }

@@ -5,14 +5,15 @@ ghost use Rattle.rules.specs.Rule.{broken};
 ghost use Rattle.lists.specs.Lists.{is_list};
 ghost use Rattle.lists.specs.Stores.{codes_at, puts};
 ghost use Rattle.mapped.specs.Numbers.{numbers_at};
-ghost use Rattle.mapping.specs.Stores.{copying, written};
+ghost use Rattle.mapping.specs.Stores.{stored_end, copying, written};
 
 use crate::PLACES;
 use lists::MappingLists;
 use mapped::numbers::Numbers;
 use rules::Rule;
 
-// The literals of the annotation, from place `used` of the map on, and after them the copies, which stand at `at`.
+// The literals of the annotation, from place `used` of the map on, and after them the copies, which stand at `at`, up to the end of the
+// shorter list. A token that is no literal, met in a list before that, is refused.
 pub fn store(
     line: &[u8],
     at: usize,
@@ -21,7 +22,8 @@ pub fn store(
     map: &mut [i32],
     values: &mut [i32],
 ) -> Result<(), Rule>
-    ensures { is_list line.now lists.literals_at ≡ true
+    ensures ends { broken result ≡ stored_end line.now at lists.existentials_at lists.literals_at }
+    ensures stores { is_list line.now lists.literals_at ≡ true
         → (is_list line.now at ≡ true → is_list line.now lists.existentials_at ≡ true → broken result ≡ 0)
         × (used + lists.literals + 1 + 2 * length line.now < 2147483648
         → written map.new values.new
@@ -31,9 +33,12 @@ pub fn store(
     let note = used % PLACES;
     lists::store_list(line, lists.literals_at, map, note)?;
     let mut place = note + lists.literals % PLACES + 1;
-    let existentials = Numbers::new(line, lists.existentials_at);
-    for (copy, existential) in Numbers::new(line, at).zip(existentials) {
+    let mut existentials = Numbers::new(line, lists.existentials_at);
+    for copy in Numbers::new(line, at) {
         let p = copy?;
+        let Some(existential) = existentials.next() else {
+            return Ok(());
+        };
         let e = existential?;
         let k = place % PLACES;
         cells::put(map, k, e as u32);
