@@ -3,6 +3,7 @@ ghost use Rattle.std.specs.Prelude.{◌≡◌, ◌≤◌, List, ℕ, length};
 ghost use Rattle.rules.specs.Limits.{Limits};
 ghost use Rattle.rules.specs.Verdict.{Checked, Ranged};
 ghost use Rattle.reading.specs.Lines.{FormulaChecked};
+ghost use Rattle.tables.specs.Tables.{lengths_of};
 ghost use Rattle.tables.specs.Lent.{tables_of, SameLent};
 ghost use Rattle.tables.specs.Checked.{CheckedBy};
 ghost use Rattle.certificates.specs.Check.{BothFiles, InRange};
@@ -26,6 +27,7 @@ pub trait Checker: Kind {
             (tables_of tables.old) result (tables_of tables.new) }
         ensures files { ((tables_of tables.new).prefix ≡ (tables_of tables.old).prefix)
             × ((tables_of tables.new).matrix ≡ (tables_of tables.old).matrix) }
+        ensures lengths { lengths_of (tables_of tables.new) ≡ lengths_of (tables_of tables.old) }
         ensures lent { SameLent tables.old tables.new };
 
     // They judge the certificate's lines by the rules of the kind, and their verdicts are in its range.

@@ -2,6 +2,7 @@
 ghost use Rattle.std.specs.Prelude.{◌≡◌};
 ghost use Rattle.reading.specs.Lines.{Rules, Code};
 ghost use Rattle.reading.proofs.GoingLaws.{Apt};
+ghost use Rattle.tables.specs.Tables.{lengths_of};
 ghost use Rattle.tables.specs.Lent.{tables_of, SameLent};
 ghost use Rattle.certificates.specs.Kind.{LineRead, EndRead};
 
@@ -34,6 +35,7 @@ pub trait Kind {
             (tables_of tables.old) work.old result (tables_of tables.new) work.new }
         ensures files { ((tables_of tables.new).prefix ≡ (tables_of tables.old).prefix)
             × ((tables_of tables.new).matrix ≡ (tables_of tables.old).matrix) }
+        ensures lengths { lengths_of (tables_of tables.new) ≡ lengths_of (tables_of tables.old) }
         ensures lent { SameLent tables.old tables.new };
 
     // The end of the file.

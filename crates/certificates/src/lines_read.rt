@@ -1,6 +1,7 @@
 // The certificate's lines one after the other.
 ghost use Rattle.std.specs.Prelude.{◌≡◌, ◌≤◌, length};
 ghost use Rattle.reading.specs.Lines.{CertificateRead};
+ghost use Rattle.tables.specs.Tables.{lengths_of};
 ghost use Rattle.tables.specs.Lent.{tables_of, SameLent};
 
 use crate::Kind;
@@ -20,6 +21,7 @@ pub fn read_certificate<K: Kind>(
         (tables_of tables.old) work.old result (tables_of tables.new) }
     ensures files { ((tables_of tables.new).prefix ≡ (tables_of tables.old).prefix)
         × ((tables_of tables.new).matrix ≡ (tables_of tables.old).matrix) }
+    ensures lengths { lengths_of (tables_of tables.new) ≡ lengths_of (tables_of tables.old) }
     ensures lent { SameLent tables.old tables.new }
 {
     let mut q = p;

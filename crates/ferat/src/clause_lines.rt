@@ -1,7 +1,7 @@
 // `e` lines and additions: measured, stored where the proof table is free, then judged there.
 ghost use Rattle.std.specs.Prelude.{◌≡◌};
 ghost use Rattle.rules.specs.Forms.{clause_form, expansion, addition};
-ghost use Rattle.tables.specs.Tables.{Tables};
+ghost use Rattle.tables.specs.Tables.{Tables, lengths_of};
 ghost use Rattle.tables.specs.Lent.{tables_of, SameLent};
 ghost use Rattle.progress.specs.declared.Work.{Work};
 ghost use Rattle.steps.specs.Judges.{beside};
@@ -24,6 +24,7 @@ pub fn expansion_line(
     ensures rest { tables_of tables.new ≡ record (tables_of tables.old)
         { proof = (tables_of tables.new).proof; marks = (tables_of tables.new).marks } }
     ensures work { work.new ≡ record work.old { propagation = work.new.propagation } }
+    ensures lengths { lengths_of (tables_of tables.new) ≡ lengths_of (tables_of tables.old) }
     ensures lent { SameLent tables.old tables.new }
 {
     let measure = lists::clause_at(line, at).ok_or(Rule::Malformed)?;
@@ -70,6 +71,7 @@ pub fn addition_line(
     ensures rest { tables_of tables.new ≡ record (tables_of tables.old)
         { proof = (tables_of tables.new).proof; marks = (tables_of tables.new).marks } }
     ensures work { work.new ≡ record work.old { propagation = work.new.propagation } }
+    ensures lengths { lengths_of (tables_of tables.new) ≡ lengths_of (tables_of tables.old) }
     ensures lent { SameLent tables.old tables.new }
 {
     let measure = lists::clause_at(line, 0).ok_or(Rule::Malformed)?;

@@ -2,7 +2,7 @@
 ghost use Rattle.std.specs.Prelude.{◌≡◌, Ok};
 ghost use Rattle.lists.specs.Stores.{ending_at};
 ghost use Rattle.rules.specs.Forms.{clause_form, deletion};
-ghost use Rattle.tables.specs.Tables.{Tables};
+ghost use Rattle.tables.specs.Tables.{Tables, lengths_of};
 ghost use Rattle.tables.specs.Lent.{tables_of, SameLent};
 ghost use Rattle.progress.specs.declared.Work.{Work};
 ghost use Rattle.steps.specs.Judges.{among, beside};
@@ -46,6 +46,7 @@ pub fn deletion_line(
       propagation = record work.old.propagation
           { trail = work.new.propagation.trail };
     } }
+    ensures lengths { lengths_of (tables_of tables.new) ≡ lengths_of (tables_of tables.old) }
     ensures lent { SameLent tables.old tables.new }
 {
     let measure = lists::clause_at(line, at).ok_or(Rule::Malformed)?;

@@ -1,7 +1,7 @@
 // The `o` line.
 ghost use Rattle.std.specs.Prelude.{◌≡◌};
 ghost use Rattle.rules.specs.Forms.{hints_form};
-ghost use Rattle.tables.specs.Tables.{Tables};
+ghost use Rattle.tables.specs.Tables.{Tables, lengths_of};
 ghost use Rattle.tables.specs.Lent.{tables_of, SameLent};
 ghost use Rattle.progress.specs.declared.Work.{Work};
 ghost use Rattle.ferat.specs.Lines.{Line, hinted_in, with_proof};
@@ -32,6 +32,7 @@ pub fn hints_line(
     ensures read { (t : Tables) (w : Work) → Line hints_form line.now at p
         (with_proof t (tables_of tables.old)) w result (with_proof t (tables_of tables.new)) w }
     ensures rest { tables_of tables.new ≡ record (tables_of tables.old) { proof = (tables_of tables.new).proof } }
+    ensures lengths { lengths_of (tables_of tables.new) ≡ lengths_of (tables_of tables.old) }
     ensures lent { SameLent tables.old tables.new }
 {
     let measure = lists::clause_at(line, at).ok_or(Rule::Malformed)?;

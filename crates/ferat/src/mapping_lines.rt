@@ -1,7 +1,7 @@
 // The mapping line.
 ghost use Rattle.std.specs.Prelude.{◌≡◌};
 ghost use Rattle.rules.specs.Forms.{mapping_form};
-ghost use Rattle.tables.specs.Tables.{Tables};
+ghost use Rattle.tables.specs.Tables.{Tables, lengths_of};
 ghost use Rattle.tables.specs.Lent.{tables_of, SameLent};
 ghost use Rattle.progress.specs.declared.Work.{Work};
 ghost use Rattle.reading.specs.Lines.{with_map};
@@ -24,6 +24,7 @@ pub fn mapping_line(
     ensures rest { tables_of tables.new ≡ record (tables_of tables.old)
         { map = (tables_of tables.new).map; values = (tables_of tables.new).values } }
     ensures noted { work.new ≡ record work.old { noted = work.new.noted } }
+    ensures lengths { lengths_of (tables_of tables.new) ≡ lengths_of (tables_of tables.old) }
     ensures lent { SameLent tables.old tables.new }
 {
     let prefix = &mut *tables.prefix;

@@ -1,6 +1,7 @@
 // The clause line: measured, stored where the proof table is free, then judged there.
 ghost use Rattle.std.specs.Prelude.{◌≡◌};
 ghost use Rattle.ferp_rules.specs.Forms.{derivation_form};
+ghost use Rattle.tables.specs.Tables.{lengths_of};
 ghost use Rattle.tables.specs.Lent.{tables_of, SameLent};
 ghost use Rattle.ferp.specs.Lines.{Line};
 
@@ -21,6 +22,7 @@ pub fn clause_line(
         { proof = (tables_of tables.new).proof; marks = (tables_of tables.new).marks } }
     ensures work { work.new ≡ record work.old
         { indexes = work.new.indexes; seen = work.new.seen; held = work.new.held; buffer = work.new.buffer } }
+    ensures lengths { lengths_of (tables_of tables.new) ≡ lengths_of (tables_of tables.old) }
     ensures lent { SameLent tables.old tables.new }
 {
     let (d, from) = ferp_forms::derivation_at(line, 0, &mut work.buffer).ok_or(Rule::Malformed)?;

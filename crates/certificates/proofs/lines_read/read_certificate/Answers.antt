@@ -1,8 +1,8 @@
 use mathlib.Core.Logic.{⊎_elim}
-use Rattle.std.proofs.Common.{◌+◌, ap, ◌∙◌, rules}
+use Rattle.std.proofs.Common.{◌+◌, refl, ap, ◌∙◌, rules}
 use Rattle.std.specs.Iterator.Adapters.{zip_first}
 use Rattle.lines.specs.Each.{lines_left}
-use Rattle.reading.proofs.ReadLaws.{midway_start, midway_next, midway_refused, midway_last, midway_short}
+use Rattle.reading.proofs.ReadLaws.{midway_start, midway_next, midway_refused, midway_last, midway_short, long_of}
 use Rattle.certificates.proofs.lines_read.read_certificate.Goals as goal
 
 pub loop-bytes-init : goal.loop-bytes-init
@@ -13,6 +13,7 @@ loop-bytes-init g c =
       midway = λ x. midway_start g.met.K.Kind.apt (ap (λ i. lines_left (zip_first i)) i ∙ ap lines_left z.first ∙ c.new.ensures) (Prim.search rules);
       prefix = Prim.search rules;
       matrix = Prim.search rules;
+      lengths = refl;
       lent = Prim.search rules;
     }
 
@@ -25,9 +26,10 @@ pub loop-bytes-preserved : goal.loop-bytes-preserved
 loop-bytes-preserved g c =
     let s = c.in-Some.ensures.steps in
     record {
-      midway = λ z. midway_next g.met.K.Kind.apt (c.loop-bytes.invariant.midway z) s.0 z _ _ c.line.ensures.read _ c.in-Ok.is (s.1.1 ∙ ap (λ n. n + 1) s.1.0);
+      midway = λ z. midway_next g.met.K.Kind.apt (c.loop-bytes.invariant.midway z) s.0 z _ _ c.line.ensures.read _ c.in-Ok.is (s.1.1 ∙ ap (λ n. n + 1) s.1.0) (long_of _ _ c.line.ensures.lengths);
       prefix = Prim.search rules;
       matrix = Prim.search rules;
+      lengths = c.line.ensures.lengths ∙ c.loop-bytes.invariant.lengths;
       lent = Prim.search rules;
     }
 
