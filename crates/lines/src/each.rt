@@ -28,6 +28,8 @@ impl<'a> Iterator for Lines<'a> {
 
     ghost remaining = { item_count lines_left };
 
+    // part of each caller's loop, although `line_end` is part of it
+    #[inline(always)]
     fn next(&mut self) -> Option<&'a [u8]> {
         let bytes = self.bytes;
         let start = self.place;
