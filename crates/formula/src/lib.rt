@@ -68,7 +68,9 @@ fn put_binding(
     Err(Rule::Malformed)
 }
 
-// A prefix line, from the place after its letter on.
+// A prefix line, from the place after its letter on. Part of its caller: a call would take what is read so far from memory, where each line
+// would have to put it.
+#[inline(always)]
 fn binding_line(
     line: &[u8],
     at: usize,

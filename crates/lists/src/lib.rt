@@ -63,7 +63,8 @@ pub fn list_at(line: &[u8], at: usize) -> Option<(Measure, usize)>
     None
 }
 
-// Literals and a zero that ends the line.
+// Literals and a zero that ends the line. Part of each caller: a call would hand the measure over in memory, its padding too.
+#[inline(always)]
 pub fn clause_at(line: &[u8], at: usize) -> Option<Measure>
     ensures { result ≡ clause_at line.now at }
 {
