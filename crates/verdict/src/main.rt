@@ -30,18 +30,14 @@ struct Contents<const N: usize> {
 
 impl<const N: usize> Contents<N> {
     // Loads a file from its start; one that does not open, or cannot be read, is empty. Where a read fails part way, the bytes read so far
-    // count.
-    fn load(files: &impl Files, path: &str) -> Contents<N>
-        ensures { result.count ≤ N }
+    // count. The buffer is the caller's: one that is returned would stand on the stack twice.
+    fn load(&mut self, files: &impl Files, path: &str)
+        ensures { self.new.count ≤ N }
     {
-        let mut contents = Contents {
-            bytes: [0; N],
-            count: 0,
-        };
+        self.count = 0;
         if let Ok(mut file) = fs::open(files, path) {
-            (contents.count, _) = read_full(&mut file, &mut contents.bytes);
+            (self.count, _) = read_full(&mut file, &mut self.bytes);
         }
-        contents
     }
 
     // The bytes that are loaded.
@@ -118,8 +114,15 @@ fn verdict_line(
 }
 
 fn main(rt: HostRuntime) -> io::Result<()> {
-    let formula = Contents::load(&rt, "formula.qdimacs");
-    let certificate = Contents::load(&rt, "proof.ferat");
+    // All is cleared before the first file is opened; what is cleared later is cleared twice.
+    let mut formula = Contents {
+        bytes: [0; 16385],
+        count: 0,
+    };
+    let mut certificate = Contents {
+        bytes: [0; 65537],
+        count: 0,
+    };
     let mut held = Held {
         prefix: [0; PLACES],
         matrix: [0; PLACES],
@@ -129,6 +132,8 @@ fn main(rt: HostRuntime) -> io::Result<()> {
         values: [0; PLACES],
     };
     let mut line = [0; 96];
+    formula.load(&rt, "formula.qdimacs");
+    certificate.load(&rt, "proof.ferat");
     let n = verdict_line(&formula, &certificate, &mut held, &mut line);
     rt.write_all(&line[0..n])
 }
