@@ -13,6 +13,7 @@ use lists::Measure;
 use rules::Rule;
 
 // As `lists::list_at`; and the codes of the list and of its zero are in the buffer, as far as it goes.
+#[inline(always)]
 pub fn list_at(line: &[u8], at: usize, buffer: &mut [u32]) -> Option<(Measure, usize)>
     ensures { (result ≡ listed_at line.now at)
         × (buffer.new ≡ sets buffer.old 0 (codes_at line.now at)) }

@@ -10,6 +10,7 @@ use lines::Literals;
 use rules::Rule;
 
 // The next word as a number without a sign, at most the cap, and the place after it.
+#[inline(always)]
 pub fn natural_at(line: &[u8], at: usize) -> Option<(u32, usize)>
     ensures { result ≡ natural_at line.now at }
 {
@@ -50,6 +51,7 @@ impl Measure {
 }
 
 // Literals up to a zero, and the place after it.
+#[inline(always)]
 pub fn list_at(line: &[u8], at: usize) -> Option<(Measure, usize)>
     ensures { result ≡ listed_at line.now at }
 {
@@ -111,6 +113,7 @@ pub fn mapping_at(line: &[u8], at: usize) -> Option<MappingLists>
 }
 
 // The second pass: the codes of the literals and of the zero after them, from place `from` on, as far as the table goes.
+#[inline(always)]
 pub fn store_list(line: &[u8], at: usize, table: &mut [i32], from: usize) -> Result<(), Rule>
     ensures { (table.new ≡ puts table.old from (codes_at line.now at))
         × (result ≡ ending_at line.now at) }

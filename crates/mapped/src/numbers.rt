@@ -26,6 +26,7 @@ impl<'a> Iterator for Numbers<'a> {
 
     ghost remaining = { items_left };
 
+    #[inline(always)]
     fn next(&mut self) -> Option<Result<usize, Rule>> {
         let at = self.at?;
         self.at = None;
