@@ -67,6 +67,7 @@ fn rises(line: &[u8], at: usize) -> bool
 }
 
 // No variable comes twice in a list, and none is above 16384. Most annotations are written with rising variables, and need no marks.
+#[inline(always)]
 fn once(line: &[u8], at: usize) -> Result<(), Rule>
     ensures { broken result ≡ ruled 8 (once (numbers_at line.now at)) (end_of line.now at) }
 {
@@ -78,6 +79,7 @@ fn once(line: &[u8], at: usize) -> Result<(), Rule>
 }
 
 // Rule 8: existentials at `from`, and at `notes` an annotation for them.
+#[inline(always)]
 pub fn annotates(line: &[u8], from: usize, notes: usize, prefix: &[i32]) -> Result<(), Rule>
     ensures { is_list line.now from ≡ true → is_list line.now notes ≡ true
         → broken result ≡ ruled 8 (annotates (entry prefix.now) (numbers_at line.now from)

@@ -28,6 +28,7 @@ fn all_marked(mut clause: Codes, trail: &Trail) -> bool
 }
 
 // Whether a clause holds each literal on the trail.
+#[inline(never)]
 fn covers(clause: Codes, trail: &Trail) -> bool
     ensures { result ≡ all (is_in (codes_left clause.entry)) (list_in trail.now) }
 {
@@ -76,13 +77,14 @@ fn earliest_of_four(standing: Standing, k: usize, trail: &Trail) -> Option<usize
     requires { k + 4 ≤ standing.count }
     ensures { ListedIn trail.now → EarliestIn (list_in trail.now) standing.entry k (k + 4) result }
 {
-    if near(standing, k) {
+    if standing.stands(k) || near(standing, k) {
         return earliest_in(standing, k, k + 4, trail);
     }
     None
 }
 
 // The same of all places.
+#[inline(never)]
 #[tactic(auto, using(crate::proofs::DeletionLaws::there_start, crate::proofs::DeletionLaws::there_more, crate::proofs::DeletionLaws::earliest_after))]
 fn earliest(standing: Standing, trail: &Trail) -> Option<usize>
     ensures { ListedIn trail.now → EarliestIn (list_in trail.now) standing.entry 0 standing.entry.count result }

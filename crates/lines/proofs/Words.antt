@@ -42,6 +42,10 @@ module _ (bs : List ℕ) (at : ℕ) {s : ℕ} (h : s ≡ at + run is_blank (drop
   unfolding tokens_from
   tokens_end l = ap (map token_of) (none_left bs at h l)
 
+  pub code_none : length bs ≤ s → None ≡ number_in (word_at bs at)
+  unfolding number_in
+  code_none l = sym (ap (λ w. shown (token_of w)) (no_word l))
+
   pub literal_none : length bs ≤ s → None ≡ literal_at bs at
   unfolding literal_at
   literal_none l = sym (ap (λ w. literal_of (token_of w) (end_at bs at)) (no_word l))
@@ -54,6 +58,9 @@ module _ (bs : List ℕ) (at : ℕ) {s : ℕ} (h : s ≡ at + run is_blank (drop
     the_word_lem : word_at bs at ≡ take (e - s) (drop s bs)
     unfolding word_at
     the_word_lem = let q : run (passes Word) (drop s bs) ≡ e - s = omega arith in ap (λ n. take (run (passes Word) (drop n bs)) (drop n bs)) start ∙ ap (λ n. take n (drop s bs)) q
+
+    pub code_read : {n : Option ℕ} → n ≡ number_in (take (e - s) (drop s bs)) → n ≡ number_in (word_at bs at)
+    code_read f = f ∙ ap number_in (sym the_word_lem)
 
     pub word_within : s < length bs → e ≤ length bs
     word_within l = omega (arith, run_le (passes Word) (drop s bs), length-drop s bs)
@@ -164,6 +171,13 @@ module _ (bs : List ℕ) (at : ℕ) where
   pub the_end : end_at bs at ≡ start_at bs at + run (passes Word) (drop (start_at bs at) bs)
   unfolding end_at
   the_end = refl
+
+  -- the next token, by its code and its end
+  pub literal_by_code : {n : Option ℕ} → n ≡ number_in (word_at bs at) → n ≡ None → None ≡ literal_at bs at
+  literal_by_code f = literal_other bs at the_start the_end (f ∙ ap number_in (the_word_lem bs at the_start the_end))
+
+  pub literal_by_both : {n : Option ℕ} {x e : ℕ} → n ≡ number_in (word_at bs at) → e ≡ end_at bs at → n ≡ Some x → Some (x, e) ≡ literal_at bs at
+  literal_by_both {n} {x} f k g = ap (λ e. Some (x, e)) k ∙ literal_read bs at the_start the_end (f ∙ ap number_in (the_word_lem bs at the_start the_end)) g
 
   pub literal_told : {x e : ℕ} → literal_at bs at ≡ Some (x, e) → Told bs at x e
   unfolding literal_at

@@ -4,7 +4,7 @@
 ghost use Rattle.std.specs.Prelude.{Some, ◌≡◌, true, false, cond, ℕ, ◌+◌, ◌*◌, ◌-◌, ◌<◌, ◌≤◌, min, eqb, length, take, drop, get_or};
 ghost use Rattle.lines.specs.declared.Run.TheVariants.{Line, Blanks, Word};
 ghost use Rattle.lines.specs.Bytes.{class_of, among_entries, is_blank, is_line_end, is_digit, is_minus, same_bytes};
-ghost use Rattle.lines.specs.Scan.{passes, run, digits_in, number_in, literal_at, ended_at, word_is, head_of, cap};
+ghost use Rattle.lines.specs.Scan.{passes, run, digits_in, number_in, word_at, end_at, literal_at, ended_at, word_is, head_of, cap};
 ghost use Rattle.lines.specs.Literals.{literals_line, literals_at, GivesLiteral, bytes_left};
 ghost use Rattle.lines.specs.Parts.{line_start, file_of, LinePart};
 
@@ -176,14 +176,12 @@ fn before_end(block: &[u8]) -> usize
     n
 }
 
-// The place of the line's end, as `past` has it; eight bytes at a time. Part of each caller: for a line of no bytes a call costs more than the test.
-#[inline(always)]
-pub fn line_end(s: &[u8], at: usize) -> usize
+// The place of the line's end, as `past` has it; eight bytes at a time.
+#[inline(never)]
+fn end_of_bytes(s: &[u8], at: usize) -> usize
+    requires { at ≤ length s.now }
     ensures { result ≡ at + run (passes Line) (drop at s.now) }
 {
-    if s.len() <= at || is_line_end(s[at]) {
-        return at;
-    }
     let mut i = at;
     for block in s[at..].chunks_exact(8) {
         if ends_within(block) {
@@ -192,6 +190,17 @@ pub fn line_end(s: &[u8], at: usize) -> usize
         i += 8;
     }
     past(s, i, Run::Line)
+}
+
+// The same. The test for a line of no bytes is part of each caller, where a call costs more than that test.
+#[inline(always)]
+pub fn line_end(s: &[u8], at: usize) -> usize
+    ensures { result ≡ at + run (passes Line) (drop at s.now) }
+{
+    if s.len() <= at || is_line_end(s[at]) {
+        return at;
+    }
+    end_of_bytes(s, at)
 }
 
 // No number is read above this one: it is above every limit.
@@ -311,17 +320,26 @@ pub fn plain_at(line: &[u8], at: usize) -> Option<(u32, usize)>
     (sign <= v).then_some((2 * v + sign, e))
 }
 
-// The next token as a literal, or as the zero that ends a list, however it is written.
-fn written_at(line: &[u8], at: usize) -> Option<(u32, usize)>
-    ensures { result ≡ literal_at line.now at }
+// The code of the next token as a literal, or as the zero that ends a list, however it is written.
+#[cold]
+#[inline(never)]
+fn code_at(line: &[u8], at: usize) -> Option<u32>
+    ensures { result ≡ number_in (word_at line.now at) }
 {
     let s = past(line, at, Run::Blanks);
     if line.len() <= s {
         return None;
     }
-    let e = past(line, s, Run::Word);
-    let x = number_of(&line[s..e])?;
-    Some((x, e))
+    number_of(&line[s..past(line, s, Run::Word)])
+}
+
+// The place after the next token.
+#[cold]
+#[inline(never)]
+fn token_end(line: &[u8], at: usize) -> usize
+    ensures { result ≡ end_at line.now at }
+{
+    past(line, past(line, at, Run::Blanks), Run::Word)
 }
 
 // The next token as a literal, or as the zero that ends a list. What `plain_at` does not read is read by `number_of`. The walk for plain tokens is
@@ -333,7 +351,8 @@ pub fn literal_at(line: &[u8], at: usize) -> Option<(u32, usize)>
     if let Some((x, e)) = plain_at(line, at) {
         return Some((x, e));
     }
-    written_at(line, at)
+    let x = code_at(line, at)?;
+    Some((x, token_end(line, at)))
 }
 
 // The literals of a line from a place on, each with the place after it, up to a token that is none; the zero that ends a list is among them.

@@ -5,7 +5,7 @@ use lib.ListN.{drop}
 use Rattle.std.specs.Slice.Iter.{chunks_exact_rest, chunks_exact_size}
 use Rattle.lines.specs.declared.Run.TheVariants.{Line}
 use Rattle.lines.specs.Scan.{passes, run}
-use Rattle.lines.proofs.line_end.Given as goal
+use Rattle.lines.proofs.end_of_bytes.Given as goal
 
 abbrev pub invariant-loop-block : goal.invariant-loop-block
 invariant-loop-block l =
