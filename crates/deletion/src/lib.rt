@@ -27,7 +27,7 @@ fn all_marked(mut clause: Codes, trail: &Trail) -> bool
     clause.all(|l| trail.is_off(l))
 }
 
-// Whether a clause holds each literal on the trail.
+// Whether a clause holds each literal on the trail. A call, since the walk over all clauses seldom asks it.
 #[inline(never)]
 fn covers(clause: Codes, trail: &Trail) -> bool
     ensures { result ≡ all (is_in (codes_left clause.entry)) (list_in trail.now) }
@@ -71,7 +71,8 @@ fn earliest_in(standing: Standing, k: usize, n: usize, trail: &Trail) -> Option<
     (k..n).find(|j| is_there(standing, *j, trail))
 }
 
-// The same of the four places from k on, which are passed over at once where no clause stands.
+// The same of the four places from k on, which are passed over at once where no clause stands. Where one stands at the first, the test of all four
+// would say so too: it is left out for the time alone.
 #[tactic(auto, using(crate::proofs::DeletionLaws::there_none))]
 fn earliest_of_four(standing: Standing, k: usize, trail: &Trail) -> Option<usize>
     requires { k + 4 ≤ standing.count }
@@ -83,7 +84,7 @@ fn earliest_of_four(standing: Standing, k: usize, trail: &Trail) -> Option<usize
     None
 }
 
-// The same of all places.
+// The same of all places. A function of its own: as part of the check's it has too few registers.
 #[inline(never)]
 #[tactic(auto, using(crate::proofs::DeletionLaws::there_start, crate::proofs::DeletionLaws::there_more, crate::proofs::DeletionLaws::earliest_after))]
 fn earliest(standing: Standing, trail: &Trail) -> Option<usize>

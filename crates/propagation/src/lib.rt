@@ -52,6 +52,7 @@ pub enum Scan {
 }
 
 // A literal for the clause at place k to watch in place of one that became false, where o is the other that it watches. None: a conflict.
+// Part of its callers: a call would copy `standing`.
 #[inline(always)]
 #[tactic(auto, using(crate::proofs::MoveLaws::moved_refl), unfolding(crate::specs::Answers::Turned))]
 fn judge(standing: Standing, trail: &mut Trail, k: usize, o: u32) -> Option<u32>
@@ -91,7 +92,7 @@ fn scan_all(standing: Standing, trail: &Trail) -> Scan
 
 impl Propagation {
     // The clauses that watch l, which is false. The lists may be cyclic for all that is known of them: the walk ends after as many steps as
-    // there are nodes.
+    // there are nodes. Part of its callers, which come to it for each literal.
     #[inline(always)]
     #[tactic(auto, using(crate::proofs::AnswerLaws::clash_on), unfolding(crate::specs::Answers::Visited, crate::specs::Answers::Turned))]
     fn walk(&mut self, standing: Standing, l: u32) -> Outcome
