@@ -3,7 +3,7 @@ ghost use Rattle.std.specs.Prelude.{◌≡◌, ◌≤◌, List, ℕ, length};
 ghost use Rattle.rules.specs.Limits.{Limits};
 ghost use Rattle.rules.specs.Verdict.{Checked, Ranged};
 ghost use Rattle.reading.specs.Lines.{FormulaChecked};
-ghost use Rattle.tables.specs.Tables.{lengths_of};
+ghost use Rattle.tables.specs.Tables.{tables, lengths_of};
 ghost use Rattle.tables.specs.Lent.{tables_of, SameLent};
 ghost use Rattle.tables.specs.Checked.{CheckedBy};
 ghost use Rattle.certificates.specs.Check.{BothFiles, InRange};
@@ -27,8 +27,52 @@ pub trait Checker: Kind {
             (tables_of tables.old) result (tables_of tables.new) }
         ensures files { ((tables_of tables.new).prefix ≡ (tables_of tables.old).prefix)
             × ((tables_of tables.new).matrix ≡ (tables_of tables.old).matrix) }
-        ensures lengths { lengths_of (tables_of tables.new) ≡ lengths_of (tables_of tables.old) }
         ensures lent { SameLent tables.old tables.new };
+
+    // The same, in tables that are lent each as a slice, which keeps its length.
+    fn certificate_in_slices(
+        certificate: &[u8],
+        r: Reading,
+        prefix: &mut [i32],
+        matrix: &mut [i32],
+        map: &mut [i32],
+        proof: &mut [i32],
+        marks: &mut [i32],
+        values: &mut [i32],
+    ) -> Ended
+        ensures read { length certificate.now ≤ 1048576 → FormulaChecked Self.rules certificate.now r
+            (tables prefix.old matrix.old map.old proof.old marks.old values.old) result
+            (tables prefix.new matrix.new map.new proof.new marks.new values.new) }
+        ensures files { (prefix.new ≡ prefix.old) × (matrix.new ≡ matrix.old) }
+    {
+        let mut lent = LentTables {
+            prefix,
+            matrix,
+            map,
+            proof,
+            marks,
+            values,
+        };
+        Self::certificate(certificate, r, &mut lent)
+    }
+
+    // The same, and the tables keep their lengths, whatever the reading says. A kind that has only `certificate` is lent them anew for it.
+    fn certificate_keeping_lengths(certificate: &[u8], r: Reading, tables: &mut LentTables) -> Ended
+        ensures read { length certificate.now ≤ 1048576 → FormulaChecked Self.rules certificate.now r
+            (tables_of tables.old) result (tables_of tables.new) }
+        ensures files { ((tables_of tables.new).prefix ≡ (tables_of tables.old).prefix)
+            × ((tables_of tables.new).matrix ≡ (tables_of tables.old).matrix) }
+        ensures lengths { lengths_of (tables_of tables.new) ≡ lengths_of (tables_of tables.old) }
+        ensures lent { SameLent tables.old tables.new }
+    {
+        let prefix = &mut *tables.prefix;
+        let matrix = &mut *tables.matrix;
+        let map = &mut *tables.map;
+        let proof = &mut *tables.proof;
+        let marks = &mut *tables.marks;
+        let values = &mut *tables.values;
+        Self::certificate_in_slices(certificate, r, prefix, matrix, map, proof, marks, values)
+    }
 
     // They judge the certificate's lines by the rules of the kind, and their verdicts are in its range.
     ghost of_both_files: { BothFiles Self.rules checked };
@@ -50,6 +94,6 @@ pub fn check<C: Checker>(formula: &[u8], certificate: &[u8], tables: &mut LentTa
     }
     match formula::read_formula(formula, tables.prefix, tables.matrix) {
         Err(refusal) => refused_early(refusal, 1),
-        Ok(r) => report_of(C::certificate(certificate, r, tables)),
+        Ok(r) => report_of(C::certificate_keeping_lengths(certificate, r, tables)),
     }
 }

@@ -26,7 +26,7 @@ pub fn read_certificate<K: Kind>(
 {
     let mut q = p;
     for (bytes, line) in Lines::new(certificate).zip(1..) {
-        match K::line(bytes, q, tables, work) {
+        match K::line_keeping_lengths(bytes, q, tables, work) {
             Ok(next) => q = next,
             Err(rule) => {
                 return Ended {

@@ -39,8 +39,17 @@ impl Kind for Ferat {
 
     ghost apt = { ferat_apt };
 
-    // What a line is, its first word says; one of no other form is read as an addition.
     fn line(
+        line: &[u8],
+        p: Progress,
+        tables: &mut LentTables,
+        work: &mut Work,
+    ) -> Result<Progress, Rule> {
+        Self::line_keeping_lengths(line, p, tables, work)
+    }
+
+    // What a line is, its first word says; one of no other form is read as an addition.
+    fn line_keeping_lengths(
         line: &[u8],
         p: Progress,
         tables: &mut LentTables,
@@ -92,6 +101,14 @@ impl Checker for Ferat {
     ghost in_range = { check_ranged };
 
     fn certificate(certificate: &[u8], r: Reading, tables: &mut LentTables) -> Ended {
+        Self::certificate_keeping_lengths(certificate, r, tables)
+    }
+
+    fn certificate_keeping_lengths(
+        certificate: &[u8],
+        r: Reading,
+        tables: &mut LentTables,
+    ) -> Ended {
         let mut work = Work {
             starts: [0; 8193],
             noted: [0; 16385],

@@ -36,8 +36,17 @@ impl Kind for Ferp {
 
     ghost apt = { ferp_apt };
 
-    // What a line is, its first word says; one of no other form is read as a clause line.
     fn line(
+        line: &[u8],
+        p: Progress,
+        tables: &mut LentTables,
+        work: &mut Work,
+    ) -> Result<Progress, Rule> {
+        Self::line_keeping_lengths(line, p, tables, work)
+    }
+
+    // What a line is, its first word says; one of no other form is read as a clause line.
+    fn line_keeping_lengths(
         line: &[u8],
         p: Progress,
         tables: &mut LentTables,
@@ -85,6 +94,14 @@ impl Checker for Ferp {
     ghost in_range = { ferp_ranged };
 
     fn certificate(certificate: &[u8], r: Reading, tables: &mut LentTables) -> Ended {
+        Self::certificate_keeping_lengths(certificate, r, tables)
+    }
+
+    fn certificate_keeping_lengths(
+        certificate: &[u8],
+        r: Reading,
+        tables: &mut LentTables,
+    ) -> Ended {
         let mut work = Work {
             starts: [0; 8193],
             noted: [0; 16385],

@@ -55,7 +55,6 @@ pub record Copying (bs : List ℕ) (at from note first : ℕ) (t₀ u₀ t u : L
   pub long : length t ≡ length t₀
   pub wide : length u ≡ length u₀
   pub low : k + 2 * length ps ≤ first + 2 * length (numbers_at bs at)
-  pub even : length (numbers_at bs at) + length es ≡ length (numbers_at bs from) + length ps
   pub text : note < 2147483648 → first + 2 * length bs < 2147483648
       → copying note ps es k t u ≡ copying note (numbers_at bs at) (numbers_at bs from) first t₀ u₀
   pub copies_end : d ≡ end_of bs at
@@ -77,7 +76,6 @@ module _ (bs : List ℕ) (at from note first : ℕ) (t₀ u₀ : List ℤ) where
     long = refl;
     wide = refl;
     low = omega (arith, ap length a);
-    even = omega (arith, ap length a, ap length c);
     text = λ n l. ap₂ (λ ps es. copying note ps es first t₀ u₀) a c;
     copies_end = b;
     existentials_end = g;
@@ -98,23 +96,6 @@ module _ {bs : List ℕ} {at from note first : ℕ} {t₀ u₀ t u : List ℤ} {
       none_left [] = refl
       none_left (p ∷ ps) = refl
 
-  -- the refusal that the end is, of an annotation that is a list
-  module _ (notes : ℕ) (l : is_list bs notes ≡ true) where
-    paired : {n : ℕ} → n ≡ paired_end bs at from → n ≡ stored_end bs at from notes
-    unfolding stored_end
-    paired e = e ∙ sym (ap (λ b. cond b (paired_end bs at from) 2) l)
-
-    pub end_copies : ps ≡ [] → {n : ℕ} → n ≡ d → n ≡ stored_end bs at from notes
-    end_copies o e =
-        paired (e ∙ s.copies_end
-        ∙ sym (ap (λ b. cond b (end_of bs at) (end_of bs from)) (le-leb (length (numbers_at bs at)) (length (numbers_at bs from)) (omega (arith, s.even, ap length o)))))
-
-    pub end_existentials : {p : ℕ} {rest : List ℕ} → ps ≡ p ∷ rest → es ≡ [] → {n : ℕ} → n ≡ e → n ≡ stored_end bs at from notes
-    end_existentials o q e =
-        paired (e ∙ s.existentials_end
-        ∙ sym (ap (λ b. cond b (end_of bs at) (end_of bs from))
-        (lt-leb (length (numbers_at bs at)) (length (numbers_at bs from)) (omega (arith, s.even, ap length o, ap length q)))))
-
   module _ {p : ℕ} {rest : List ℕ} (o : ps ≡ p ∷ rest) {x : ℕ} {more : List ℕ} (q : es ≡ x ∷ more) where
     pub copying_more : x ≤ cap → length (numbers_at bs at) ≤ length bs → {c g : ℕ} → d ≡ c → e ≡ g → {t₁ t₂ u₁ : List ℤ}
         → t₁ ≡ set t (k % 2147483648) (pos (x % 2147483648)) → t₂ ≡ set t₁ (k % 2147483648 + 1) (pos (note % 2147483648))
@@ -128,7 +109,6 @@ module _ {bs : List ℕ} {at from note first : ℕ} {t₀ u₀ t u : List ℤ} {
           long = ap length y₂ ∙ length-set t₁ (k % 2147483648 + 1) (pos (note % 2147483648)) ∙ ap length y₁ ∙ length-set t (k % 2147483648) (pos (x % 2147483648)) ∙ s.long;
           wide = ap length y₃ ∙ length-set u (p - 1) (pos (k % 2147483648 % 2147483648)) ∙ s.wide;
           low = omega arith;
-          even = omega (arith, s.even, one, ap length q);
           text = λ n l.
               let w : k % 2147483648 ≡ k = stored (omega arith) in
               let e₁ : t₁ ≡ set t k (pos x) = y₁ ∙ ap₂ (λ w v. set t w (pos v)) w (stored (omega arith)) in
@@ -141,6 +121,43 @@ module _ {bs : List ℕ} {at from note first : ℕ} {t₀ u₀ t u : List ℤ} {
           copies_end = sym i ∙ s.copies_end;
           existentials_end = sym j ∙ s.existentials_end;
         }
+
+-- A TURN of it, where as many of the copies as of the existentials are stored
+pub record CopyingPairs (bs : List ℕ) (at from note first : ℕ) (t₀ u₀ t u : List ℤ) (ps : List ℕ) (d : ℕ) (es : List ℕ) (e k : ℕ) : Type 0 where
+  pub copying : Copying bs at from note first t₀ u₀ t u ps d es e k
+  pub even : length (numbers_at bs at) + length es ≡ length (numbers_at bs from) + length ps
+
+pub pairs_start : (bs : List ℕ) (at from note first : ℕ) (t₀ u₀ : List ℤ) {ps : List ℕ} {d : ℕ} {es : List ℕ} {e : ℕ} → ps ≡ numbers_at bs at → d ≡ end_of bs at
+    → es ≡ numbers_at bs from → e ≡ end_of bs from → CopyingPairs bs at from note first t₀ u₀ t₀ u₀ ps d es e first
+pairs_start bs at from note first t₀ u₀ a b c g =
+    record { copying = copying_start bs at from note first t₀ u₀ a b c g; even = omega (arith, ap length a, ap length c) }
+
+module _ {bs : List ℕ} {at from note first : ℕ} {t₀ u₀ t u : List ℤ} {ps : List ℕ} {d : ℕ} {es : List ℕ} {e k : ℕ}
+    (s : CopyingPairs bs at from note first t₀ u₀ t u ps d es e k) where
+  -- the refusal that the end is, of an annotation that is a list
+  module _ (notes : ℕ) (l : is_list bs notes ≡ true) where
+    paired : {n : ℕ} → n ≡ paired_end bs at from → n ≡ stored_end bs at from notes
+    unfolding stored_end
+    paired e = e ∙ sym (ap (λ b. cond b (paired_end bs at from) 2) l)
+
+    pub end_copies : ps ≡ [] → {n : ℕ} → n ≡ d → n ≡ stored_end bs at from notes
+    end_copies o e =
+        paired (e ∙ s.copying.copies_end
+        ∙ sym (ap (λ b. cond b (end_of bs at) (end_of bs from)) (le-leb (length (numbers_at bs at)) (length (numbers_at bs from)) (omega (arith, s.even, ap length o)))))
+
+    pub end_existentials : {p : ℕ} {rest : List ℕ} → ps ≡ p ∷ rest → es ≡ [] → {n : ℕ} → n ≡ e → n ≡ stored_end bs at from notes
+    end_existentials o q e =
+        paired (e ∙ s.copying.existentials_end
+        ∙ sym (ap (λ b. cond b (end_of bs at) (end_of bs from))
+        (lt-leb (length (numbers_at bs at)) (length (numbers_at bs from)) (omega (arith, s.even, ap length o, ap length q)))))
+
+  module _ {p : ℕ} {rest : List ℕ} (o : ps ≡ p ∷ rest) {x : ℕ} {more : List ℕ} (q : es ≡ x ∷ more) where
+    pub pairs_more : x ≤ cap → length (numbers_at bs at) ≤ length bs → {c g : ℕ} → d ≡ c → e ≡ g → {t₁ t₂ u₁ : List ℤ}
+        → t₁ ≡ set t (k % 2147483648) (pos (x % 2147483648)) → t₂ ≡ set t₁ (k % 2147483648 + 1) (pos (note % 2147483648))
+        → u₁ ≡ set u (p - 1) (pos (k % 2147483648 % 2147483648))
+        → CopyingPairs bs at from note first t₀ u₀ t₂ u₁ rest c more g (k % 2147483648 + 2)
+    pairs_more small few i j y₁ y₂ y₃ =
+        record { copying = copying_more s.copying o q small few i j y₁ y₂ y₃; even = omega (arith, s.even, ap length o, ap length q) }
 
 -- the annotation, and then the copies
 pub storing : (bs : List ℕ) (at from notes m used : ℕ) (t u : List ℤ) {t₁ t₂ u₂ : List ℤ} {r : ℕ} → t₁ ≡ puts t (used % 2147483648) (codes_at bs notes)

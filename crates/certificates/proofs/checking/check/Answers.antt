@@ -23,4 +23,4 @@ pub returns-in-Ok-clause-checked : goal.returns-in-Ok-clause-checked
 returns-in-Ok-clause-checked g c =
     let m = g.met.C in
     certificate_checked m.Kind.apt m.Checker.of_both_files _ _ _ (tables_of c.args.tables.now) (λ l. m.Checker.in_range l _ _) c.if-formula-gt-BYTES.false c.if-certificate-gt-BYTES.false _ _
-    c.read_formula.ensures _ c.in-Ok.is _ _ c.certificate.ensures.read _ c.report_of.ensures
+    c.read_formula.ensures _ c.in-Ok.is _ _ c.certificate_keeping_lengths.ensures.read _ c.report_of.ensures

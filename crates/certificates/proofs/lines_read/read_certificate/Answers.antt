@@ -20,16 +20,16 @@ loop-bytes-init g c =
 pub returns-in-Err-clause-read : goal.returns-in-Err-clause-read
 returns-in-Err-clause-read g c = λ z.
     let s = c.in-Some.ensures.steps in
-    rw c.counts.ensures (midway_refused g.met.K.Kind.apt (c.loop-bytes.invariant.midway z) s.0 z _ _ c.line.ensures.read _ c.in-Err.is s.1.0)
+    rw c.counts.ensures (midway_refused g.met.K.Kind.apt (c.loop-bytes.invariant.midway z) s.0 z _ _ c.line_keeping_lengths.ensures.read _ c.in-Err.is s.1.0)
 
 pub loop-bytes-preserved : goal.loop-bytes-preserved
 loop-bytes-preserved g c =
     let s = c.in-Some.ensures.steps in
     record {
-      midway = λ z. midway_next g.met.K.Kind.apt (c.loop-bytes.invariant.midway z) s.0 z _ _ c.line.ensures.read _ c.in-Ok.is (s.1.1 ∙ ap (λ n. n + 1) s.1.0) (long_of _ _ c.line.ensures.lengths);
+      midway = λ z. midway_next g.met.K.Kind.apt (c.loop-bytes.invariant.midway z) s.0 z _ _ c.line_keeping_lengths.ensures.read _ c.in-Ok.is (s.1.1 ∙ ap (λ n. n + 1) s.1.0) (long_of _ _ c.line_keeping_lengths.ensures.lengths);
       prefix = Prim.search rules;
       matrix = Prim.search rules;
-      lengths = c.line.ensures.lengths ∙ c.loop-bytes.invariant.lengths;
+      lengths = c.line_keeping_lengths.ensures.lengths ∙ c.loop-bytes.invariant.lengths;
       lent = Prim.search rules;
     }
 

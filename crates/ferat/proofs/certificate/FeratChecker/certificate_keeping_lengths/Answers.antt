@@ -4,7 +4,7 @@ use lib.ListN.{replicate, length-replicate}
 use Rattle.tables.specs.Lent.{tables_of}
 use Rattle.trail.proofs.TrailLaws.{ready_start}
 use Rattle.ferat.proofs.CheckLaws.{formula_checked}
-use Rattle.ferat.proofs.certificate.FeratChecker.certificate.Goals as goal
+use Rattle.ferat.proofs.certificate.FeratChecker.certificate_keeping_lengths.Goals as goal
 
 pub returns-clause-read : goal.returns-clause-read
 returns-clause-read c = λ z.

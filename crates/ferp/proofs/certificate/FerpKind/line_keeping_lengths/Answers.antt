@@ -7,8 +7,8 @@ use Rattle.reading.proofs.MappingLaws.{map_lent}
 use Rattle.ferp.specs.Kinds.{letter_kind}
 use Rattle.ferp.specs.Lines.{same_form, judged}
 use Rattle.ferp.proofs.KindLaws.{head_means, plain_letter}
-use Rattle.ferp.proofs.certificate.FerpKind.line.Goals as goal
-use Rattle.ferp.proofs.certificate.FerpKind.line.Goals.{in_default-via-in-Letter+in_default, in_default-via-in_default}
+use Rattle.ferp.proofs.certificate.FerpKind.line_keeping_lengths.Goals as goal
+use Rattle.ferp.proofs.certificate.FerpKind.line_keeping_lengths.Goals.{in_default-via-in-Letter+in_default, in_default-via-in_default}
 
 pub returns-in-Skipped-clause-read : goal.returns-in-Skipped-clause-read
 returns-in-Skipped-clause-read c =

@@ -8,8 +8,8 @@ use Rattle.ferat.specs.Kinds.{letter_kind}
 use Rattle.ferat.proofs.KindLaws.{head_means, plain_letter}
 use Rattle.ferat.proofs.LentLaws.{three_lent, among_lent, beside_lent}
 use Rattle.ferat.proofs.LineLaws.{line_skipped, line_formed}
-use Rattle.ferat.proofs.certificate.FeratKind.line.Goals as goal
-use Rattle.ferat.proofs.certificate.FeratKind.line.Goals.{in_default-via-in-Letter+in_default, in_default-via-in_default}
+use Rattle.ferat.proofs.certificate.FeratKind.line_keeping_lengths.Goals as goal
+use Rattle.ferat.proofs.certificate.FeratKind.line_keeping_lengths.Goals.{in_default-via-in-Letter+in_default, in_default-via-in_default}
 
 pub returns-in-Skipped-clause-read : goal.returns-in-Skipped-clause-read
 returns-in-Skipped-clause-read c = line_skipped (λ f s. head_means _ (tables_of c.args.tables.now) f s (sym c.line_head.ensures ∙ c.in-Skipped.is) refl)
