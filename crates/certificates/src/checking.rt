@@ -65,13 +65,16 @@ pub trait Checker: Kind {
         ensures lengths { lengths_of (tables_of tables.new) ≡ lengths_of (tables_of tables.old) }
         ensures lent { SameLent tables.old tables.new }
     {
-        let prefix = &mut *tables.prefix;
-        let matrix = &mut *tables.matrix;
-        let map = &mut *tables.map;
-        let proof = &mut *tables.proof;
-        let marks = &mut *tables.marks;
-        let values = &mut *tables.values;
-        Self::certificate_in_slices(certificate, r, prefix, matrix, map, proof, marks, values)
+        Self::certificate_in_slices(
+            certificate,
+            r,
+            tables.prefix,
+            tables.matrix,
+            tables.map,
+            tables.proof,
+            tables.marks,
+            tables.values,
+        )
     }
 
     // They judge the certificate's lines by the rules of the kind, and their verdicts are in its range.

@@ -79,13 +79,17 @@ pub trait Kind {
         ensures lengths { lengths_of (tables_of tables.new) ≡ lengths_of (tables_of tables.old) }
         ensures lent { SameLent tables.old tables.new }
     {
-        let prefix = &mut *tables.prefix;
-        let matrix = &mut *tables.matrix;
-        let map = &mut *tables.map;
-        let proof = &mut *tables.proof;
-        let marks = &mut *tables.marks;
-        let values = &mut *tables.values;
-        Self::line_in_slices(line, p, prefix, matrix, map, proof, marks, values, work)
+        Self::line_in_slices(
+            line,
+            p,
+            tables.prefix,
+            tables.matrix,
+            tables.map,
+            tables.proof,
+            tables.marks,
+            tables.values,
+            work,
+        )
     }
 
     // The end of the file.

@@ -39,6 +39,7 @@ impl Kind for Ferat {
 
     ghost apt = { ferat_apt };
 
+    // By the call that the loop over the lines makes, which stands below: the given one would lend the tables anew for each line.
     fn line(
         line: &[u8],
         p: Progress,
@@ -100,6 +101,7 @@ impl Checker for Ferat {
 
     ghost in_range = { check_ranged };
 
+    // By the call that the check makes, which stands below, as with a line.
     fn certificate(certificate: &[u8], r: Reading, tables: &mut LentTables) -> Ended {
         Self::certificate_keeping_lengths(certificate, r, tables)
     }

@@ -36,6 +36,7 @@ impl Kind for Ferp {
 
     ghost apt = { ferp_apt };
 
+    // By the call that the loop over the lines makes, which stands below: the given one would lend the tables anew for each line.
     fn line(
         line: &[u8],
         p: Progress,
@@ -93,6 +94,7 @@ impl Checker for Ferp {
 
     ghost in_range = { ferp_ranged };
 
+    // By the call that the check makes, which stands below, as with a line.
     fn certificate(certificate: &[u8], r: Reading, tables: &mut LentTables) -> Ended {
         Self::certificate_keeping_lengths(certificate, r, tables)
     }
